@@ -6,7 +6,8 @@
 The proof refuses a body that breaks its contract. It can't refuse a contract that was weakened first. So the page
 holds each public contract of the libraries and programs, one clause a line:
 
-- the signature of each public function, method and method of a trait, and its `requires` and `ensures` with their names;
+- the signature of each public function, method and method of a public trait, and its `requires` and `ensures` with
+  their names;
 - public types, and what contracts see of them;
 - constants that are public or that a definition names;
 - a checksum of each file of definitions: all of specs/ but specs/private, without comments.
@@ -197,6 +198,16 @@ pub trait Counter {
         ensures { result ≡ true };
 }
 
+trait Doubled {
+    fn doubled(&self) -> u32;
+}
+
+impl Doubled for Count {
+    fn doubled(&self) -> u32 {
+        2 * self.sum
+    }
+}
+
 impl Count {
     /// The sum.
     pub fn sum(&self) -> u32
@@ -273,6 +284,7 @@ CHANGES = [
     ("src/counts.rt", "u32 = 2", "u32 = 3", False),
     ("src/counts.rt", "    steps: u32", "    paces: u32", False),
     ("src/counts.rt", "result ≤ 1", "result ≤ 2", False),
+    ("src/counts.rt", "    fn doubled(&self) -> u32 {", "    fn doubled(&self) -> u64 {", False),
     ("src/counts.rt", "Ok(Count", "Ok(Other", False),
     ("src/counts.rt", "/// The sum.", "/// What was counted.", False),
     ("src/counts.rt", "        // Always.\n", "", False),

@@ -73,12 +73,11 @@ class Crate:
             if re.search(rf"(?m)^(pub )?mod {module};", top):
                 self.exported |= set(re.findall(r"\w+", names))
         self.open = set(re.findall(r"(?m)^pub mod (\w+);", top))
-        for folder, _, files in os.walk(root):
-            for file in sorted(files):
-                path = os.path.join(folder, file)
-                place = os.path.relpath(path, root)[:-3]
-                if file.endswith(".rt") and "tests" not in place:
-                    self.read_file(read(path), place.split(os.sep)[0])
+        places = [os.path.relpath(os.path.join(folder, file), root)[:-3] for folder, _, files in os.walk(root) for file in sorted(files) if file.endswith(".rt")]
+        texts = [(place.split(os.sep)[0], read(os.path.join(root, f"{place}.rt"))) for place in places if "tests" not in place]
+        self.private_traits = {name for _, text in texts for name in re.findall(r"(?m)^(?:pub\(\w+\) )?trait (\w+)", text)}
+        for place, text in texts:
+            self.read_file(text, place)
 
     def read_file(self, text, place):
         imports, lines, owner = Imports(text), text.split("\n"), None
@@ -98,7 +97,7 @@ class Crate:
     def read_fn(self, lines, at, found, owner, imports, place):
         is_method, is_marked, name = bool(found.group(1)), bool(found.group(2)), found.group(3)
         if is_method and owner:
-            is_public = owner[1] in self.exported and (is_marked or owner[0] is not None)
+            is_public = owner[1] in self.exported and (is_marked or owner[0] is not None) and owner[0] not in self.private_traits
         else:
             # What `main` is made of is the program's own contract.
             is_public = not is_method and (place == "main" or is_marked and (place in self.open or name in self.exported))

@@ -110,7 +110,7 @@ lifting_few lift d rest counts is s = record {
       omega (arith, s.stays u h same, at_least-few lift.graph s.between u (get_or lift.new u 0 - d) is.graph h);
 }
 
--- the turn of v
+-- v moves
 module _ (lift : LiftShape) (d v : ℕ) (rest before counts : List ℕ) (is : IsLift lift) (inside : v < lift.graph.vertices) (s : IsLifting lift d (v ∷ rest) before) (t : HaveGained lift v d before counts) where
   abbrev after : List ℕ
   after = set s.between v (get_or lift.new v 0)
@@ -222,14 +222,6 @@ pub cost_last : (lift : LiftShape) (vertices : List ℕ) (i : ℕ) → length ve
 cost_last lift vertices i end = ap (lift_cost lift) (drop_all i vertices end)
 
 -- the levels
-
-pub taking_next : (z vertices y : List ℕ) (i : ℕ) → i < length vertices → get_or vertices i 0 < length z → AreTakenUp z (drop i vertices) y → AreTakenUp z (drop (i + 1) vertices) (set y (get_or vertices i 0) (get_or z (get_or vertices i 0) 0))
-taking_next z vertices y i at inside s =
-    let now : AreTakenUp z (get_or vertices i 0 ∷ drop (suc i) vertices) y = rw (drop-cons vertices i 0 at) at s in
-    rw add-one (record {
-      sized = length-set y (get_or vertices i 0) (get_or z (get_or vertices i 0) 0) ∙ now.sized;
-      done = λ u far. changed y (get_or vertices i 0) (get_or z (get_or vertices i 0) 0) (omega (arith, now.sized, inside)) (λ k l. has_number k (drop (suc i) vertices) ≡ false → l ≡ get_or z k 0) u (λ e. refl) (λ ne e. now.done u (grind (arith, nat_tests, e, ne))) far;
-    })
 
 pub taking_last : (z vertices y : List ℕ) (i : ℕ) → length vertices ≤ i → AreTakenUp z (drop i vertices) y → y ≡ z
 taking_last z vertices y i end s =

@@ -1,8 +1,8 @@
 -- What an edge changes in the counts of its ends.
-use Rattle.std.proofs.Common.{ℕ, ◌+◌, ◌-◌, ◌≤◌, ◌<◌, ◌≡◌, ◌≢◌, inl, inr, true, false, cond, leb, List, [], ◌∷◌, length, get_or, set, drop, ap, sym, ◌∙◌, arith, subst}
+use Rattle.std.proofs.Common.{ℕ, ◌+◌, ◌-◌, ◌≤◌, ◌<◌, ◌≡◌, ◌≢◌, inl, inr, true, false, cond, leb, List, ◌∷◌, length, get_or, set, drop, ap, sym, ◌∙◌, arith}
 use Rattle.std.specs.Prelude.{count_by}
 use Rattle.std.proofs.lemmas.Bool.{cases_eq}
-use Rattle.std.proofs.lemmas.List.{length-set, get_or-set_same, get_or-set_other, drop_more, drop_all}
+use Rattle.std.proofs.lemmas.List.{length-set, get_or-set_same, get_or-set_other, drop_more}
 use Rattle.kc_graph.specs.Numbers.{has_number}
 use Rattle.kc_graph.specs.Shape.{GraphShape, Pair, IsGraph, neighbours_of, has_edge, with_edge, without_edge}
 use Rattle.kc_graph.proofs.lemmas.Changes.{is_graph-with_edge, is_graph-without_edge}
@@ -146,9 +146,6 @@ module _ (g : GraphShape) (x own below : List ℕ) (es : List Pair) (i : ℕ) (e
     s : AwaitsEdges g x own below (e ∷ drop (i + 1) es)
     s = rw rest_is at s'
 
-    pub awaited_inside : e.1 < length x
-    awaited_inside = omega (arith, s.addable.0, s.counted.sized)
-
     awaited_few : (d v : ℕ) (counts : List ℕ) → IsCounted s.before x d counts → v ≤ e.1 → get_or counts v 0 < 2147483648
     awaited_few d v counts c le =
         let few : get_or counts v 0 < s.before.vertices = count-few s.before x d counts v s.counted.graph c (omega (arith, s.addable.0)) in
@@ -178,9 +175,6 @@ module _ (g : GraphShape) (x own below : List ℕ) (es : List Pair) (i : ℕ) (e
     t : LosesEdges g x own below (e ∷ drop (i + 1) es)
     t = rw rest_is at s'
 
-    pub lost_inside : e.1 < length x
-    lost_inside = omega (arith, t.removable.0, t.counted.sized)
-
     pub lost_own_low : share x 0 e.0 e.1 ≤ get_or own e.0 0
     lost_own_low = share_low t.before x e.0 e.1 t.counted.graph order t.removable.0 t.removable.1 0 own t.counted.own_counts
 
@@ -206,14 +200,3 @@ module _ (g : GraphShape) (x own below : List ℕ) (es : List Pair) (i : ℕ) (e
         below_counts = counted_unlinked t.before x e.0 e.1 t.counted.graph order t.removable.0 t.removable.1 1 below t.counted.below_counts;
       });
     }
-
--- all edges are in, or out
-pub awaited_all : (g : GraphShape) (x own below : List ℕ) (es : List Pair) (i : ℕ) → length es ≤ i → AwaitsEdges g x own below (drop i es) → IsAdjacency g x own below
-awaited_all g x own below es i end s' =
-    let s : AwaitsEdges g x own below [] = rw (drop_all i es end) at s' in
-    subst (λ (h : GraphShape). IsAdjacency h x own below) s.becomes s.counted
-
-pub lost_all : (g : GraphShape) (x own below : List ℕ) (es : List Pair) (i : ℕ) → length es ≤ i → LosesEdges g x own below (drop i es) → IsAdjacency g x own below
-lost_all g x own below es i end s' =
-    let s : LosesEdges g x own below [] = rw (drop_all i es end) at s' in
-    subst (λ (h : GraphShape). IsAdjacency h x own below) s.becomes s.counted

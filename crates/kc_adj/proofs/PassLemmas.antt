@@ -3,37 +3,20 @@ use Rattle.std.proofs.Common.{ℕ, suc, zero, ◌+◌, ◌-◌, ◌*◌, ◌/◌
 use Rattle.std.specs.Prelude.{filter}
 use Rattle.std.specs.List.{flat_map}
 use Rattle.std.proofs.Math.Seq.{take-append_seam, drop-append-add}
-use Rattle.std.proofs.lemmas.Bool.{cases_Bool, cases_eq, cases_lt, true≢false}
+use Rattle.std.proofs.lemmas.Bool.{cases_Bool, cases_eq, cases_lt, true≢false, and_parts}
 use Rattle.std.proofs.lemmas.Bool.Decides.{nat_tests}
 use Rattle.std.proofs.lemmas.Grind.{flat_map-append}
-use Rattle.std.proofs.lemmas.List.{append-nil, append_assoc, get_or-map, get_or-take, length-append, drop-drop, drop_all, length-drop, length-map, length-take, take_all, take_more}
-use Rattle.std.proofs.lemmas.List.Elements.{filter-append}
+use Rattle.std.proofs.lemmas.List.{append-nil, get_or-map, get_or-take, length-append, drop-drop, drop_all, length-drop, length-map, length-take, take_all, take_more}
 use Rattle.std.proofs.lemmas.List.Folds.{length-flat_map-take}
 use Rattle.kc_graph.specs.Numbers.{has_number, RisesFrom}
 use Rattle.kc_graph.specs.Shape.{neighbours_of}
 use Rattle.kc_graph.proofs.lemmas.Numbers.{has_number_at, rises_filter}
 use Rattle.kc_graph.proofs.lemmas.Neighbours.{neighbour_below, neighbours_rise}
-use Rattle.kc_adj.specs.declared.passes.Turn.{Turn}
+use Rattle.kc_adj.specs.declared.passes.Visit.{Visit}
 use Rattle.kc_adj.specs.private.Lifting.{LiftShape, IsLift, is_unmoved, gains, AreGained, HaveGained}
 use Rattle.kc_adj.specs.private.Moving.{is_passed}
 use Rattle.kc_adj.specs.declared.passes.Passed.{Passed}
-use Rattle.kc_adj.specs.private.Passing.{is_touched, touched_by, turn_of, ArePassed}
-
--- one number more is looked at, and kept where it passes
-pub look_next : (q : ℕ → Bool) (row : List ℕ) (i : ℕ) (old found next : List ℕ) (holds : Bool) → i < length row → found ≡ old ++ filter q (take i row) → holds ≡ q (get_or row i 0) → next ≡ cond holds (found ++ get_or row i 0 ∷ []) found → next ≡ old ++ filter q (take (i + 1) row)
-look_next q row i old found next holds at is holds_is next_is = elim (cases_Bool (q (get_or row i 0))) [
-  | inl passes ↦
-      let one : filter q (get_or row i 0 ∷ []) ≡ get_or row i 0 ∷ [] = rw passes refl in
-      let yes : holds ≡ true = holds_is ∙ passes in
-      next_is ∙ rw (yes, is) (append_assoc old (filter q (take i row)) (get_or row i 0 ∷ []) ∙ ap (λ ws. old ++ ws) (sym (more ∙ ap (λ ws. filter q (take i row) ++ ws) one)))
-  | inr fails ↦
-      let none : filter q (get_or row i 0 ∷ []) ≡ [] = rw fails refl in
-      let no : holds ≡ false = holds_is ∙ fails in
-      next_is ∙ rw (no, is) (ap (λ ws. old ++ ws) (sym (more ∙ ap (λ ws. filter q (take i row) ++ ws) none ∙ append-nil (filter q (take i row)))))
-]
-  where
-    more : filter q (take (i + 1) row) ≡ filter q (take i row) ++ filter q (get_or row i 0 ∷ [])
-    more = ap (λ ws. filter q ws) (take_more row i 0 at) ∙ filter-append q (take i row) (get_or row i 0 ∷ [])
+use Rattle.kc_adj.specs.private.Passing.{is_touched, touched_by, visit_of, ArePassed}
 
 has_number-filter : (u : ℕ) (p : ℕ → Bool) (xs : List ℕ) → has_number u (filter p xs) ≡ has_number u xs && p u
 has_number-filter u p [] = refl
@@ -41,9 +24,6 @@ has_number-filter u p (x ∷ xs) = elim (cases_eq x u) [
   | inl e ↦ rw e (grind (arith, nat_tests, has_number-filter u p xs))
   | inr ne ↦ grind (arith, nat_tests, has_number-filter u p xs, ne)
 ]
-
-both : (a b : Bool) → a && b ≡ true → (a ≡ true) × (b ≡ true)
-both a b e = (grind (arith, nat_tests, e), grind (arith, nat_tests, e))
 
 -- who isn't touched counts from no level that is passed
 untouched : (s : Bool) (k l r d : ℕ) → d ≤ 1 → s && (ltb k r && leb (r - 1) l) ≡ false → ◌≡◌ {A = ℕ} (cond (s && (ltb k (r - d) && leb (r - d) l)) 1 0) 0
@@ -67,12 +47,12 @@ module _ (lift : LiftShape) (v : ℕ) (is : IsLift lift) where
   touched_rise = rises_filter 0 test near (neighbours_rise lift.graph.vertices v lift.graph.edges is.graph)
 
   at_place : (i : ℕ) → i < length (touched_by lift v) → (has_number (get_or (touched_by lift v) i 0) near ≡ true) × (test (get_or (touched_by lift v) i 0) ≡ true)
-  at_place i at = both _ _ (sym (has_number-filter (get_or (touched_by lift v) i 0) test near) ∙ has_number_at (get_or (touched_by lift v) i 0) (touched_by lift v) i at refl)
+  at_place i at = and_parts _ _ (sym (has_number-filter (get_or (touched_by lift v) i 0) test near) ∙ has_number_at (get_or (touched_by lift v) i 0) (touched_by lift v) i at refl)
 
   pub touched_is : (touched : List ℕ) (i : ℕ) → touched ≡ touched_by lift v → i < length touched → (get_or touched i 0 < lift.graph.vertices) × (is_unmoved lift (get_or touched i 0) ≡ true)
   touched_is touched i e at =
       let here = at_place i (rw e at at) in
-      rw e (neighbour_below lift.graph.vertices v (get_or (touched_by lift v) i 0) lift.graph.edges is.graph here.0, (both _ _ here.1).0)
+      rw e (neighbour_below lift.graph.vertices v (get_or (touched_by lift v) i 0) lift.graph.edges is.graph here.0, (and_parts _ _ here.1).0)
 
   -- who isn't touched gains nothing
   pub gained_by_touched : (d : ℕ) (before counts : List ℕ) → d ≤ 1 → AreGained (gains lift (get_or lift.old v 0) (get_or lift.new v 0) d) (touched_by lift v) before counts → HaveGained lift v d before counts
@@ -108,35 +88,35 @@ module _ (f : ℕ → List ℕ) where
       ∙ ap (take (length (f (get_or xs i 0)))) (drop-append-add (f x) (flat_map f xs) (length (flat_map f (take i xs))))
       ∙ piece_at xs i (omega arith)
 
--- the turn at the place i of those at the first vertices of a list, and the vertices that it touches, from `place` on
-pub record IsTurn (lift : LiftShape) (vertices touched : List ℕ) (all i place : ℕ) (t : Turn) : Type 0 where
+-- the visit at the place i of those at the first vertices of a list, and the vertices that it touches, from `place` on
+pub record IsVisit (lift : LiftShape) (vertices touched : List ℕ) (all i place : ℕ) (t : Visit) : Type 0 where
   pub here : i < length vertices
-  pub is : t ≡ turn_of lift (get_or vertices i 0)
+  pub is : t ≡ visit_of lift (get_or vertices i 0)
   pub next : place + t.touched ≡ length (flat_map (touched_by lift) (take (i + 1) (take all vertices)))
   pub within : place + t.touched ≤ length touched
   pub run : (run : List ℕ) → run ≡ take t.touched (drop place touched) → run ≡ touched_by lift (get_or vertices i 0)
 
-module _ (lift : LiftShape) (vertices : List ℕ) (r : Passed) (i place : ℕ) (t : Turn) (s : ArePassed lift (take (length r.turns.items) vertices) r) (at : i < length r.turns.items) (e : t ≡ get_or r.turns.items i t) (place_is : place ≡ length (flat_map (touched_by lift) (take i (take (length r.turns.items) vertices)))) where
+module _ (lift : LiftShape) (vertices : List ℕ) (r : Passed) (i place : ℕ) (t : Visit) (s : ArePassed lift (take (length r.visits.items) vertices) r) (at : i < length r.visits.items) (e : t ≡ get_or r.visits.items i t) (place_is : place ≡ length (flat_map (touched_by lift) (take i (take (length r.visits.items) vertices)))) where
   abbrev first : List ℕ
-  first = take (length r.turns.items) vertices
+  first = take (length r.visits.items) vertices
 
   in_first : i < length first
-  in_first = omega (arith, at, ap (λ (ts : List Turn). length ts) s.turns, length-map first (turn_of lift))
+  in_first = omega (arith, at, ap (λ (ts : List Visit). length ts) s.visits, length-map first (visit_of lift))
 
   inside_list : i < length vertices
-  inside_list = omega (arith, in_first, length-take (length r.turns.items) vertices)
+  inside_list = omega (arith, in_first, length-take (length r.visits.items) vertices)
 
   same : get_or first i 0 ≡ get_or vertices i 0
-  same = get_or-take (length r.turns.items) vertices i 0 at
+  same = get_or-take (length r.visits.items) vertices i 0 at
 
-  it_is : t ≡ turn_of lift (get_or vertices i 0)
-  it_is = e ∙ ap (λ (ts : List Turn). get_or ts i t) s.turns ∙ get_or-map (turn_of lift) first i 0 t in_first ∙ ap (turn_of lift) same
+  it_is : t ≡ visit_of lift (get_or vertices i 0)
+  it_is = e ∙ ap (λ (ts : List Visit). get_or ts i t) s.visits ∙ get_or-map (visit_of lift) first i 0 t in_first ∙ ap (visit_of lift) same
 
   count : t.touched ≡ length (touched_by lift (get_or first i 0))
-  count = ap (λ (k : Turn). k.touched) it_is ∙ ap (λ v. length (touched_by lift v)) (sym same)
+  count = ap (λ (k : Visit). k.touched) it_is ∙ ap (λ v. length (touched_by lift v)) (sym same)
 
-  pub turn_at : IsTurn lift vertices r.touched.items (length r.turns.items) i place t
-  turn_at = record {
+  pub visit_at : IsVisit lift vertices r.touched.items (length r.visits.items) i place t
+  visit_at = record {
     here = inside_list;
     is = it_is;
     next = omega (arith, place_is, count, piece_next (touched_by lift) first i in_first);
@@ -144,8 +124,8 @@ module _ (lift : LiftShape) (vertices : List ℕ) (r : Passed) (i place : ℕ) (
     run = λ run run_is. run_is ∙ rw (count, place_is, s.touched) (piece_at (touched_by lift) first i in_first) ∙ ap (touched_by lift) same;
   }
 
-pub turn_is : (a b c k l m : ℕ) → a ≡ k → b ≡ l → c ≡ m → ◌≡◌ {A = Turn} (record { own = a; below = b; touched = c }) (record { own = k; below = l; touched = m })
-turn_is a b c k l m e f h = rw (e, f, h) refl
+pub visit_is : (a b c k l m : ℕ) → a ≡ k → b ≡ l → c ≡ m → ◌≡◌ {A = Visit} (record { own = a; below = b; touched = c }) (record { own = k; below = l; touched = m })
+visit_is a b c k l m e f h = rw (e, f, h) refl
 
 -- at the end of a row the numbers kept are all that pass
 pub looked : (q : ℕ → Bool) (row old items : List ℕ) (i end : ℕ) → length row ≤ i → end ≤ length items → take end items ≡ old ++ filter q (take i row) → (take end items ≡ old ++ filter q row) × (end - length old ≡ length (filter q row)) × (length old ≤ end)

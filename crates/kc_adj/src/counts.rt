@@ -34,7 +34,8 @@ pub fn is_reached(from: u16, to: u16, level: u16) -> bool
 /// Counts a neighbour of w that goes up from a level to another; w is on `level`. Each count of w gains the neighbour
 /// if the count's level is passed or reached on the way.
 ///
-/// A single branch skips the vertices whose counts don't change.
+/// A single branch skips the vertices whose counts don't change. The bound of 2^31 on both counts is chosen freely: any
+/// up to 2^32 - 1 keeps the sums in range.
 pub fn gain(counts: &mut Counts, w: u32, from: u16, to: u16, level: u16)
     requires own { w < length counts.old.own.items }
     requires below { w < length counts.old.below.items }

@@ -45,6 +45,7 @@ impl<'a> Lift<'a> {
         requires over { IsBelow graph.now.vertices old.now new.now }
         ensures { result ≡ record { graph = graph.now; old = old.now; new = new.now } }
     {
+        // Evidence for the check: the edges of the graph ascend, and its vertices are at most `MAX_VERTICES`.
         let _n = graph.vertices();
         Lift {
             graph,
@@ -54,7 +55,9 @@ impl<'a> Lift<'a> {
     }
 }
 
-// Counts a neighbour of w that goes up from a level to another, if w stays (`gain`).
+// Adds to both counts of w for a neighbour that goes up from level `from` to level `to`, unless w moves too.
+//
+// If `is_reached` is false, `lift.old` isn't loaded. `gain` tests it again.
 fn gain_unmoved(lift: &Lift<'_>, counts: &mut Counts, w: u32, from: u16, to: u16)
     requires vertex { w < lift.now.graph.vertices }
     requires own { w < length counts.old.own.items }
@@ -122,7 +125,7 @@ pub fn lift_counts<L: Ledger>(
 {
     let graph = lift.graph;
     for i in 0..vertices.len() {
-        let v = graph.in_turn(vertices, i);
+        let v = graph.vertex_with_prefetch(vertices, i);
         let (own, below) = pass(lift, counts, v);
         renew(lift, counts, v, own, below);
         steps.add(graph.neighbours(v).len());

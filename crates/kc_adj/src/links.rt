@@ -22,8 +22,8 @@ fn share(levels: &Levels, less: u16, v: u32, w: u32) -> u32
     }
 }
 
-/// Counts an edge between a and b that came in, at both ends.
-pub fn link(levels: &Levels, counts: &mut Vec<u32>, less: u16, a: u32, b: u32)
+/// Counts an edge between a and b that came in, at both ends, each from `less` levels below its own on.
+pub fn count_edge(levels: &Levels, counts: &mut Vec<u32>, less: u16, a: u32, b: u32)
     requires order { a < b }
     requires below { b < length levels.now }
     requires sized { length counts.old.items ≡ length levels.now }
@@ -37,8 +37,8 @@ pub fn link(levels: &Levels, counts: &mut Vec<u32>, less: u16, a: u32, b: u32)
     counts[b as usize] = high;
 }
 
-/// Removes an edge between a and b from the counts of both ends.
-pub fn unlink(levels: &Levels, counts: &mut Vec<u32>, less: u16, a: u32, b: u32)
+/// Removes an edge between a and b from the counts of both ends, each from `less` levels below its own on.
+pub fn uncount_edge(levels: &Levels, counts: &mut Vec<u32>, less: u16, a: u32, b: u32)
     requires order { a < b }
     requires below { b < length levels.now }
     requires sized { length counts.old.items ≡ length levels.now }
@@ -52,24 +52,24 @@ pub fn unlink(levels: &Levels, counts: &mut Vec<u32>, less: u16, a: u32, b: u32)
     counts[b as usize] = high;
 }
 
-/// Counts the edges that came into the graph.
-pub fn link_all(graph: &Graph, levels: &Levels, counts: &mut Counts, edges: &[Edge])
+/// Counts the edges that came into the graph, in both counts of their ends.
+pub fn count_edges(graph: &Graph, levels: &Levels, counts: &mut Counts, edges: &[Edge])
     requires { AwaitsEdges graph.now levels.now counts.old.own.items counts.old.below.items edges.now }
     ensures { IsAdjacency graph.now levels.now counts.new.own.items counts.new.below.items }
 {
     for e in edges {
-        link(levels, &mut counts.own, 0, e.a, e.b);
-        link(levels, &mut counts.below, 1, e.a, e.b);
+        count_edge(levels, &mut counts.own, 0, e.a, e.b);
+        count_edge(levels, &mut counts.below, 1, e.a, e.b);
     }
 }
 
-/// Removes the edges that left the graph from the counts.
-pub fn unlink_all(graph: &Graph, levels: &Levels, counts: &mut Counts, edges: &[Edge])
+/// Removes the edges that left the graph from both counts of their ends.
+pub fn uncount_edges(graph: &Graph, levels: &Levels, counts: &mut Counts, edges: &[Edge])
     requires { LosesEdges graph.now levels.now counts.old.own.items counts.old.below.items edges.now }
     ensures { IsAdjacency graph.now levels.now counts.new.own.items counts.new.below.items }
 {
     for e in edges {
-        unlink(levels, &mut counts.own, 0, e.a, e.b);
-        unlink(levels, &mut counts.below, 1, e.a, e.b);
+        uncount_edge(levels, &mut counts.own, 0, e.a, e.b);
+        uncount_edge(levels, &mut counts.below, 1, e.a, e.b);
     }
 }

@@ -7,7 +7,7 @@ ghost use Rattle.std.specs.Prelude.{◌≡◌, ◌+◌, ◌<◌, ◌++◌, All, 
 ghost use Rattle.std.specs.Result.{is_ok};
 ghost use Rattle.kc_adj.specs.LeveledGraph.{IsAdjacency};
 ghost use Rattle.kc_adj.specs.private.Lifting.{lift_cost, AreLifted, CanGain, HaveGained, IsLifting};
-ghost use Rattle.kc_adj.specs.private.Passing.{is_touched as touches, touched_by, turn_of, ArePassed};
+ghost use Rattle.kc_adj.specs.private.Passing.{is_touched as touches, touched_by, visit_of, ArePassed};
 
 use crate::counts::{Counts, as_one, gain, is_reached};
 use crate::lifting::{Lift, lift_counts, renew};
@@ -25,7 +25,7 @@ const LEAST_LIFTED: usize = 4_096;
 
 /// The result of a pass over the neighbours of a vertex.
 #[derive(Clone, Copy)]
-pub struct Turn {
+pub struct Visit {
     /// The number of neighbours on its new level or above.
     pub own: u32,
     /// The number of neighbours on the level below that or above.
@@ -38,7 +38,7 @@ pub struct Turn {
 #[derive(Drop)]
 pub struct Passed {
     /// The result at each vertex.
-    pub turns: Vec<Turn>,
+    pub visits: Vec<Visit>,
     /// The neighbours that stay and may gain, those of the first vertex first.
     pub touched: Vec<u32>,
 }
@@ -55,9 +55,9 @@ fn is_touched(lift: &Lift<'_>, w: u32, from: u16, to: u16) -> bool
 
 // Passes over the neighbours of v, and appends those that it touches to `touched`. Fails only if memory runs out; the
 // content of `touched` is then unspecified.
-fn look(lift: &Lift<'_>, v: u32, touched: &mut Vec<u32>) -> Result<Turn, AllocError>
+fn visit_vertex(lift: &Lift<'_>, v: u32, touched: &mut Vec<u32>) -> Result<Visit, AllocError>
     requires { v < lift.now.graph.vertices }
-    ensures turn { IfOk result (λ t. t ≡ turn_of lift.now v) }
+    ensures visit { IfOk result (λ t. t ≡ visit_of lift.now v) }
     ensures touched { OnOk result (touched.new.items ≡ touched.old.items ++ touched_by lift.now v) }
 {
     let from = lift.old[v as usize];
@@ -76,7 +76,7 @@ fn look(lift: &Lift<'_>, v: u32, touched: &mut Vec<u32>) -> Result<Turn, AllocEr
         end = put_where(touched, end, *w, is_touched(lift, *w, from, to));
     }
     touched.truncate(end);
-    Ok(Turn {
+    Ok(Visit {
         own,
         below,
         touched: (end - start) as u32,
@@ -84,17 +84,17 @@ fn look(lift: &Lift<'_>, v: u32, touched: &mut Vec<u32>) -> Result<Turn, AllocEr
 }
 
 // Passes over the neighbours of the vertices of a piece. Fails only if memory runs out.
-fn look_at_piece(alloc: Global, lift: &Lift<'_>, piece: &[u32]) -> Result<Passed, AllocError>
+fn visit_piece(alloc: Global, lift: &Lift<'_>, piece: &[u32]) -> Result<Passed, AllocError>
     requires { All (λ v. v < lift.now.graph.vertices) piece.now }
     ensures { IfOk result (ArePassed lift.now piece.now) }
 {
-    let mut turns = Vec::with_capacity(alloc, piece.len())?;
+    let mut visits = Vec::with_capacity(alloc, piece.len())?;
     let mut touched = Vec::new(alloc);
     for i in 0..piece.len() {
-        let v = lift.graph.in_turn(piece, i);
-        turns.push(look(lift, v, &mut touched)?)?;
+        let v = lift.graph.vertex_with_prefetch(piece, i);
+        visits.push(visit_vertex(lift, v, &mut touched)?)?;
     }
-    Ok(Passed { turns, touched })
+    Ok(Passed { visits, touched })
 }
 
 // Lets the vertices that v touches gain by its move.
@@ -123,22 +123,22 @@ fn write_down<L: Ledger>(
     steps: &mut Steps<L>,
 )
     requires vertices { All (λ v. v < lift.now.graph.vertices) vertices.now }
-    requires passed { ArePassed lift.now (take (length passed.now.turns.items) vertices.now) passed.now }
+    requires passed { ArePassed lift.now (take (length passed.now.visits.items) vertices.now) passed.now }
     requires own { IsLifting lift.now 0 vertices.now counts.old.own.items }
     requires below { IsLifting lift.now 1 vertices.now counts.old.below.items }
-    ensures own { IsLifting lift.now 0 (drop (length passed.now.turns.items) vertices.now) counts.new.own.items }
-    ensures below { IsLifting lift.now 1 (drop (length passed.now.turns.items) vertices.now) counts.new.below.items }
-    ensures cost { steps.new + lift_cost lift.now (drop (length passed.now.turns.items) vertices.now) ≡ steps.old + lift_cost lift.now vertices.now }
+    ensures own { IsLifting lift.now 0 (drop (length passed.now.visits.items) vertices.now) counts.new.own.items }
+    ensures below { IsLifting lift.now 1 (drop (length passed.now.visits.items) vertices.now) counts.new.below.items }
+    ensures cost { steps.new + lift_cost lift.now (drop (length passed.now.visits.items) vertices.now) ≡ steps.old + lift_cost lift.now vertices.now }
 {
     let graph = lift.graph;
     let mut place = 0;
-    for i in 0..passed.turns.len() {
+    for i in 0..passed.visits.len() {
         let v = vertices[i];
-        let turn = passed.turns[i];
-        let touched = run_of(&passed.touched, place, turn.touched as usize);
+        let visit = passed.visits[i];
+        let touched = run_of(&passed.touched, place, visit.touched as usize);
         gain_all(lift, counts, v, touched);
-        renew(lift, counts, v, turn.own, turn.below);
-        place += turn.touched as usize;
+        renew(lift, counts, v, visit.own, visit.below);
+        place += visit.touched as usize;
         steps.add(graph.neighbours(v).len());
         steps.tick();
     }
@@ -181,6 +181,7 @@ pub fn par_lift_counts<R: Threads + Sync, L: Ledger>(
         return Ok(());
     }
     let alloc = crew.alloc;
+    // Evidence for the check: the edges of the graph ascend.
     let _n = lift.graph.vertices();
     let found = thread::map_chunks(
         crew.rt,
@@ -190,7 +191,7 @@ pub fn par_lift_counts<R: Threads + Sync, L: Ledger>(
         &|_start: usize, piece: &[u32]| -> Result<Passed, AllocError>
             requires { All (λ v. v < lift.now.graph.vertices) piece.now }
             ensures { IfOk result (ArePassed lift.entry.now piece.entry.now) }
-        { look_at_piece(alloc, lift, piece) },
+        { visit_piece(alloc, lift, piece) },
     )?;
     if !are_made(&found) {
         return Err(AllocError);
@@ -200,7 +201,7 @@ pub fn par_lift_counts<R: Threads + Sync, L: Ledger>(
         match piece {
             Ok(passed) => {
                 write_down(lift, counts, rest, passed, steps);
-                rest = &rest[passed.turns.len()..];
+                rest = &rest[passed.visits.len()..];
             }
             Err(_) => unreachable!(),
         }

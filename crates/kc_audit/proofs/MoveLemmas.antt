@@ -1,10 +1,9 @@
 -- Levels after moves.
-use Rattle.std.proofs.Common.{ℕ, zero, suc, ◌+◌, ◌≤◌, ◌<◌, ◌≡◌, ◌≢◌, List, [], ◌∷◌, length, take, drop, get_or, set, refl, ap, sym, ◌∙◌, arith, length-set, get_or-set_other}
+use Rattle.std.proofs.Common.{ℕ, zero, suc, ◌+◌, ◌<◌, ◌≡◌, ◌≢◌, List, [], ◌∷◌, length, take, drop, get_or, set, refl, ap, sym, ◌∙◌, arith, get_or-set_other}
 use Rattle.std.specs.Prelude.{All, IfSome, slice_get}
 use Rattle.std.proofs.lemmas.Option.{slice_get-get_or}
 use Rattle.std.proofs.lemmas.List.{drop_more, take_more}
 use Rattle.std.proofs.lemmas.List.Elements.{All-head, All-tail}
-use Rattle.kc_levels.specs.declared.moves.Move.{Move}
 use Rattle.kc_history.specs.declared.replies.Reply.{Reply}
 use Rattle.kc_history.specs.declared.entries.Entry.{Entry}
 use Rattle.kc_history.specs.Points.{with_moves, levels_at}
@@ -15,16 +14,6 @@ use Rattle.kc_audit.specs.Runs.{moves_of, entry_of, history_of}
 pub moves_more : (xs : List ℕ) (ms : List Reply) (i : ℕ) (d : Reply) → i < length ms
     → with_moves xs (moves_of (drop i ms)) ≡ with_moves (set xs (get_or ms i d).vertex (get_or ms i d).level) (moves_of (drop (i + 1) ms))
 moves_more xs ms i d h = rw (drop_more ms i d h) refl
-
-pub moves_end : (xs : List ℕ) (ms : List Reply) (i : ℕ) → length ms ≤ i → with_moves xs (moves_of (drop i ms)) ≡ xs
-moves_end xs [] zero h = refl
-moves_end xs [] (suc i) h = refl
-moves_end xs (m ∷ ms) zero h = absurd (omega (arith, h))
-moves_end xs (m ∷ ms) (suc i) h = moves_end xs ms i (omega (arith, h))
-
-pub length-moves : (xs : List ℕ) (ms : List Move) → length (with_moves xs ms) ≡ length xs
-length-moves xs [] = refl
-length-moves xs (m ∷ ms) = length-moves (set xs m.vertex m.new) ms ∙ length-set xs m.vertex m.new
 
 -- a vertex that no member names keeps its level
 pub moves_other : (xs : List ℕ) (ms : List Reply) (v : ℕ) → All (λ m. m.vertex ≢ v) ms → get_or (with_moves xs (moves_of ms)) v 0 ≡ get_or xs v 0

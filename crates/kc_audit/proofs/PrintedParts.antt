@@ -5,6 +5,7 @@ use Rattle.std.specs.List.{list_all, join_with_byte}
 use Rattle.std.proofs.lemmas.Bool.{and_from, and_parts, le-leb, leb-true, ltb-true, eqb-true}
 use Rattle.std.proofs.lemmas.List.{append-nil}
 use Rattle.std.proofs.lemmas.List.Concat.{flat_map-append}
+use Rattle.std.proofs.lemmas.Bool.Decides.{nat_tests}
 use Rattle.kc_graph.specs.declared.limits.TheConstants.{MAX_VERTICES}
 use Rattle.kc_text.specs.Printing.{is_line, printed_line, printed}
 use Rattle.kc_history.specs.declared.replies.Reply.{Reply}
@@ -81,10 +82,7 @@ are_small n (r ∷ rs) most below levels =
 -- the label of a group is one of its vertices
 label_below : (n label : ℕ) (ms : List Reply) → is_group label ms ≡ true → are_below n ms ≡ true → label < n
 label_below n label [] g b = absurd cc
-label_below n label (m ∷ ms) g b =
-    let same = eqb-true m.vertex label (and_parts _ _ g).0 in
-    let low = ltb-true m.vertex n (and_parts (nat_lt m.vertex n) (are_below n ms) b).0 in
-    omega (arith, same, low)
+label_below n label (m ∷ ms) g b = grind (arith, nat_tests, eqb-true, and_parts, ltb-true)
 
 -- the words of a group line
 abbrev pub group_words : GroupLine → List (List ℕ)
@@ -93,7 +91,7 @@ group_words g = codes "group" ∷ decimal g.phase ∷ decimal g.label ∷ pair_w
 pub group_says : (n p low : ℕ) (g : GroupLine) → n ≤ MAX_VERTICES → IsSmall p → GroupFits n p low g → Says (group_words g) (Rattle.kc_audit.specs.Kinds.Group g.phase g.label (pair_words 58 g.members))
 group_says n p low g most small fits =
     let label = label_below n g.label g.members fits.rises fits.below in
-    lines_say_kinds.group g.phase g.label g.members (omega (arith, small, fits.phase)) (omega (arith, label, most)) (are_small n g.members most fits.below fits.levels)
+    lines_say_kinds.batches.group g.phase g.label g.members (omega (arith, small, fits.phase)) (omega (arith, label, most)) (are_small n g.members most fits.below fits.levels)
 
 pub reader_says : (n r : ℕ) (rs : List Reply) → n ≤ MAX_VERTICES → r < 64 → ReaderFits n rs → Says (codes "reader" ∷ decimal r ∷ pair_words 61 rs) (Rattle.kc_audit.specs.Kinds.Reader r (pair_words 61 rs))
-reader_says n r rs most few fits = lines_say_kinds.reader r rs (omega (arith, few)) (are_small n rs most fits.below fits.levels)
+reader_says n r rs most few fits = lines_say_kinds.levels.reader r rs (omega (arith, few)) (are_small n rs most fits.below fits.levels)

@@ -2,6 +2,7 @@
 use Rattle.std.proofs.Common.{ℕ, zero, suc, ◌+◌, ◌-◌, ◌≤◌, ◌<◌, ◌≡◌, List, [], ◌∷◌, ◌++◌, length, take, drop, get_or, refl, ap, sym, arith, inl, inr}
 use Rattle.std.proofs.lemmas.Bool.{cases_lt}
 use Rattle.std.proofs.lemmas.List.{take_more, drop_more, take_all, append-nil}
+use Rattle.std.proofs.lemmas.Bool.Decides.{nat_tests}
 use Rattle.kc_history.specs.declared.entries.Entry.{Entry}
 use Rattle.kc_history.specs.declared.replies.Reply.{Reply}
 use Rattle.kc_history.specs.Points.{levels_at}
@@ -32,10 +33,7 @@ reached_take n history before rest r p h fits = record {
 }
 
 later : (n : ℕ) (history : List Entry) (p : ℕ) (r : Reply) (rs : List Reply) → (IsLevelAt n history p r → ⊥) → AreExplained n history p (r ∷ rs) → AreExplained n history (p + 1) (r ∷ rs)
-later n history p r rs unfit e = elim (cases_lt p e.0) [
-  | inl lt ↦ (e.0, (omega (arith, lt), e.1.1))
-  | inr ge ↦ let same : e.0 ≡ p = omega (arith, ge, e.1.0) in absurd (unfit (rw same at e.1.1.0))
-]
+later n history p r rs unfit e = grind (arith, nat_tests, e.0, e.1.1, e.1.0, e.1.1.0)
 
 -- a reply that doesn't fit here
 reached_pass : (n : ℕ) (history : List Entry) (before rest : List Reply) (r : Reply) (p : ℕ) → IsReached n history before (r ∷ rest) p → (IsLevelAt n history p r → ⊥)

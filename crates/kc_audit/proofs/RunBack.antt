@@ -14,7 +14,7 @@ use Rattle.kc_audit.specs.declared.stage.PhasesLeft.TheVariants.{NoPhase, Insert
 use Rattle.kc_audit.specs.declared.stage.Place.{Place}
 use Rattle.kc_audit.specs.declared.stage.Stage.{Stage}
 use Rattle.kc_audit.specs.declared.stage.Stage.TheVariants.{Batches, Groups, Readers, VertexLines}
-use Rattle.kc_audit.specs.Kinds.{Kind, Head, Vertices, Accepted, Refused, Phase, Group, Reader, Vertex, Close, InputEnd, kind_of}
+use Rattle.kc_audit.specs.Kinds.{Kind, Accepted, Refused, Phase, Group, Reader, Vertex, Close, InputEnd, kind_of}
 use Rattle.kc_audit.specs.Documents.{Step, Goes, Ends, Stops, step_of, reader_step, vertex_step, batches_step, left_after, act, read_from, empty_run, first_place, after_head, document_of}
 use Rattle.kc_audit.specs.Documents as document
 use Rattle.kc_audit.specs.ReadBack.{pair_words, PhaseText, BatchText, Took, Left, group_kinds, batch_kinds, reader_kinds, vertex_kinds, GroupFits, GroupsFit, BatchesFit, ReaderFits, ReadersFit, batch_groups, RunIsReadBack}
@@ -233,8 +233,4 @@ vertices_ok n some most = rw (at_most 1 n some, at_most n MAX_VERTICES most) ref
 
 pub run_is_read_back : RunIsReadBack
 unfolding document_of after_head kinds
-run_is_read_back n bs rs ls some most fits few readers e =
-    split Head _ ls (λ all. document_of all ≡ document.Accepted (record { vertices = n; groups = batch_groups bs; readers = rs })) e
-    (λ l rest head others. rw head
-    (split (Vertices n) _ rest (λ all. after_head all ≡ document.Accepted (record { vertices = n; groups = batch_groups bs; readers = rs })) others
-    (λ m more second body. rw (second, vertices_ok n some most) (by_kinds more _ (empty_run n) (Batches first_place) (rw body (body_back n bs rs some most fits few readers))))))
+run_is_read_back n bs rs ls some most fits few readers e = grind (arith, nat_tests, split, vertices_ok, by_kinds, body_back)

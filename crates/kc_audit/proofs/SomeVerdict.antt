@@ -1,9 +1,8 @@
 -- Each run has a verdict.
-use Rattle.std.proofs.Common.{ℕ, zero, suc, ◌-◌, ◌≤◌, ◌<◌, ◌≡◌, ◌⊎◌, inl, inr, List, [], ◌∷◌, take, length, get_or, refl, subst, arith}
-use Rattle.std.proofs.lemmas.Bool.{cases_lt}
+use Rattle.std.proofs.Common.{ℕ, zero, suc, ◌-◌, ◌≤◌, ◌<◌, ◌≡◌, ◌⊎◌, inl, inr, List, [], ◌∷◌, take, length, refl, subst, arith}
+use Rattle.std.proofs.lemmas.Bool.Decides.{nat_tests}
 use Rattle.kc_history.specs.declared.entries.Entry.{Entry}
 use Rattle.kc_history.specs.declared.replies.Reply.{Reply}
-use Rattle.kc_history.specs.Points.{levels_at}
 use Rattle.kc_history.specs.Replies.{IsLevelAt, AreExplained}
 use Rattle.kc_audit.specs.declared.run_text.RunText.{RunText}
 use Rattle.kc_audit.specs.declared.verdict.AuditVerdict.{AuditVerdict}
@@ -13,20 +12,11 @@ use Rattle.kc_audit.specs.Verdicts.{replies_of, IsExplained, IsFirstUnexplained,
 use Rattle.kc_audit.specs.Laws.{HasVerdict}
 
 same_or_not : (a b : ℕ) → (a ≡ b) ⊎ ¬ (a ≡ b)
-same_or_not a b = elim (cases_lt a b) [
-  | inl less ↦ inr (λ e. omega (arith, less, e))
-  | inr no_less ↦ elim (cases_lt b a) [
-    | inl more ↦ inr (λ e. omega (arith, more, e))
-    | inr no_more ↦ inl (omega (arith, no_less, no_more))
-  ]
-]
+same_or_not a b = grind (arith, nat_tests)
 
 -- what holds below k and at k holds below k + 1
 one_more : (P : ℕ → Type 0) (k : ℕ) → ((i : ℕ) → i < k → P i) → P k → (i : ℕ) → i < suc k → P i
-one_more P k h here i lt = elim (cases_lt i k) [
-  | inl under ↦ h i under
-  | inr over ↦ let e : k ≡ i = omega (arith, over, lt) in rw e at here
-]
+one_more P k h here i lt = grind (arith, nat_tests)
 
 -- a number below k that passes, or none
 below : (P : ℕ → Type 0) → ((i : ℕ) → P i ⊎ ¬ (P i)) → (k : ℕ) → ((i : ℕ) × ((i < k) × P i)) ⊎ ((i : ℕ) → i < k → ¬ (P i))
@@ -40,13 +30,7 @@ below P test (suc k) = elim (below P test k) [
 ]
 
 level_or_not : (n : ℕ) (history : List Entry) (p : ℕ) (r : Reply) → IsLevelAt n history p r ⊎ ¬ (IsLevelAt n history p r)
-level_or_not n history p r = elim (cases_lt (length history) p) [
-  | inl past ↦ inr (λ h. omega (arith, past, h.inside))
-  | inr inside ↦ elim (same_or_not (get_or (levels_at n history p) r.vertex 0) r.level) [
-    | inl same ↦ inl (record { inside = inside; level = same })
-    | inr other ↦ inr (λ h. other h.level)
-  ]
-]
+level_or_not n history p r = grind (arith, nat_tests, same_or_not)
 
 -- p is a point, from `from` on, at which r can be told, and from which the others are explained
 abbrev Goes : ℕ → List Entry → ℕ → Reply → List Reply → ℕ → Type 0
@@ -54,16 +38,7 @@ Goes n history from r rs p = (from ≤ p) × (IsLevelAt n history p r × AreExpl
 
 goes_or_not : (n : ℕ) (history : List Entry) (from : ℕ) (r : Reply) (rs : List Reply) → ((p : ℕ) → AreExplained n history p rs ⊎ ¬ (AreExplained n history p rs))
     → (p : ℕ) → Goes n history from r rs p ⊎ ¬ (Goes n history from r rs p)
-goes_or_not n history from r rs rest p = elim (cases_lt p from) [
-  | inl early ↦ inr (λ g. omega (arith, early, g.0))
-  | inr late ↦ elim (level_or_not n history p r) [
-    | inr other ↦ inr (λ g. other g.1.0)
-    | inl there ↦ elim (rest p) [
-      | inr unexplained ↦ inr (λ g. unexplained g.1.1)
-      | inl explained ↦ inl (late, (there, explained))
-    ]
-  ]
-]
+goes_or_not n history from r rs rest p = grind (arith, nat_tests, level_or_not)
 
 explained_or_not : (n : ℕ) (history : List Entry) (rs : List Reply) (from : ℕ) → AreExplained n history from rs ⊎ ¬ (AreExplained n history from rs)
 explained_or_not n history [] from = inl tt

@@ -1,6 +1,6 @@
 -- Verdicts that exclude each other.
-use Rattle.std.proofs.Common.{ℕ, zero, suc, ◌-◌, ◌≤◌, ◌<◌, ◌≡◌, List, [], ◌∷◌, take, refl, ap, sym, ◌∙◌, subst, arith, inl, inr}
-use Rattle.std.proofs.lemmas.Bool.{cases_lt}
+use Rattle.std.proofs.Common.{ℕ, zero, suc, ◌-◌, ◌≤◌, ◌<◌, ◌≡◌, List, [], ◌∷◌, take, refl, ap, arith}
+use Rattle.std.proofs.lemmas.Bool.Decides.{nat_tests}
 use Rattle.kc_history.specs.declared.entries.Entry.{Entry}
 use Rattle.kc_history.specs.declared.replies.Reply.{Reply}
 use Rattle.kc_history.specs.Replies.{AreExplained}
@@ -38,17 +38,10 @@ no_less_ask : (run : RunText) (r a b : ℕ) → IsUnexplained run r a → IsUnex
 no_less_ask run r a b u w h = u.here.unfit (shorter run a (b - 1) (replies_of run r) (omega (arith, h)) w.here.before)
 
 same_number : (a b : ℕ) → (a < b → ⊥) → (b < a → ⊥) → a ≡ b
-same_number a b p q = elim (cases_lt a b) [
-  | inl lt ↦ absurd (p lt)
-  | inr ge ↦ elim (cases_lt b a) [ inl lt ↦ absurd (q lt) | inr le ↦ omega (arith, ge, le) ]
-]
+same_number a b p q = grind (arith, nat_tests)
 
 pub one_verdict : IsOneVerdict
 one_verdict run Explained Explained v w = refl
 one_verdict run Explained (Unexplained s b) v w = absurd (explained_here run (replies_of run s) b (v s w.within) w.here)
 one_verdict run (Unexplained r a) Explained v w = absurd (explained_here run (replies_of run r) a (w r v.within) v.here)
-one_verdict run (Unexplained r a) (Unexplained s b) v w =
-    let reader : r ≡ s = same_number r s (no_less run r a s b v w) (no_less run s b r a w v) in
-    let moved : IsUnexplained run r b = subst (λ (t : ℕ). IsUnexplained run t b) (sym reader) w in
-    let ask : a ≡ b = same_number a b (no_less_ask run r a b v moved) (no_less_ask run r b a moved v) in
-    ap (λ (t : ℕ). Unexplained t a) reader ∙ ap (λ (t : ℕ). Unexplained s t) ask
+one_verdict run (Unexplained r a) (Unexplained s b) v w = grind (arith, nat_tests, same_number, no_less, no_less_ask)

@@ -3,6 +3,7 @@ use Rattle.std.proofs.Common.{ℕ, ◌+◌, ◌-◌, ◌≤◌, ◌<◌, ◌≡�
 use Rattle.std.specs.Prelude.{All}
 use Rattle.std.proofs.lemmas.List.{get_or-replicate}
 use Rattle.std.proofs.lemmas.List.Elements.{All-weaker}
+use Rattle.std.proofs.lemmas.Bool.Decides.{nat_tests}
 use Rattle.kc_history.specs.declared.entries.Entry.{Entry}
 use Rattle.kc_history.specs.declared.replies.Reply.{Reply}
 use Rattle.kc_history.specs.Points.{levels_at}
@@ -23,12 +24,6 @@ AreAt n history readers told p = (r : ℕ) → r < length readers → IsAt n his
 -- and can tell no more there
 pub AreStuck : ℕ → List Entry → List (List Reply) → List ℕ → ℕ → Type 0
 AreStuck n history readers told p = (r : ℕ) → r < length readers → IsStuck n history (get_or readers r []) (get_or told r 0) p
-
-pub none_told : (readers : List (List Reply)) → AreWithin readers (replicate (length readers) 0)
-none_told readers = record {
-  sized = Rattle.std.proofs.lemmas.List.length-replicate {A = ℕ} (length readers) 0;
-  each = λ r h. rw (get_or-replicate {A = ℕ} (length readers) r 0 0 h) (omega arith);
-}
 
 pub all_at_start : (n : ℕ) (history : List Entry) (readers : List (List Reply)) → AreAt n history readers (replicate (length readers) 0) 0
 unfolding AreAt
@@ -73,18 +68,4 @@ pub told_verdict : (run : RunText) (told : List ℕ) (p : ℕ) (verdict : AuditV
     → ((r : ℕ) → r < length run.readers → get_or told r 0 < length (get_or run.readers r []) → length run.groups ≤ p) → Tells run.readers told verdict → IsVerdict run verdict
 unfolding AreStuck
 told_verdict run told p Explained h last t = λ r lt. explained_all run.vertices (history_of run.groups) (get_or run.readers r []) (get_or told r 0) p (h r lt).at (t r lt)
-told_verdict run told p (Unexplained reader ask) h last t =
-    let rs = get_or run.readers reader [] in
-    let k = get_or told reader 0 in
-    let same : k + 1 - 1 ≡ k = omega arith in
-    record {
-      within = t.within;
-      before = λ r lt. let inside : r < length run.readers = omega (arith, lt, t.within) in
-          explained_all run.vertices (history_of run.groups) (get_or run.readers r []) (get_or told r 0) p (h r inside).at (t.before r lt);
-      here = rw t.ask_is (record {
-        counted = omega arith;
-        within = omega (arith, t.here);
-        before = rw same (explained_so_far run.vertices (history_of run.groups) rs k p (h reader t.within).at);
-        unfit = unexplained_next run.vertices (history_of run.groups) rs k p (h reader t.within) t.here (omega (arith, last reader t.within t.here, length-history run.groups));
-      });
-    }
+told_verdict run told p (Unexplained reader ask) h last t = grind (arith, nat_tests, explained_all, explained_so_far, unexplained_next, length-history, t.within, t.before, t.ask_is, t.here)

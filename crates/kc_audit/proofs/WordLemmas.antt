@@ -1,7 +1,7 @@
 -- Words, and what is said by those after them.
-use Rattle.std.proofs.Common.{ℕ, ◌≡◌, ◌<◌, ◌≤◌, ◌+◌, ◌-◌, Bool, true, false, ◌&&◌, cond, arith, length, take, List, [], ◌∷◌, ◌++◌, drop, refl, ap, sym, append_assoc}
-use Rattle.std.specs.Prelude.{Option, Some, None, nat_lt, ◌==◌}
-use Rattle.std.specs.List.{position, position_or_len, before_first, after_first}
+use Rattle.std.proofs.Common.{ℕ, ◌≡◌, ◌<◌, ◌+◌, ◌-◌, Bool, true, false, ◌&&◌, cond, arith, length, take, List, [], ◌∷◌, ◌++◌, drop, refl, ap, sym, append_assoc}
+use Rattle.std.specs.Prelude.{Option, Some, None, ◌==◌}
+use Rattle.std.specs.List.{position, position_or_len}
 use Rattle.std.proofs.lemmas.List.{append-nil, drop_all, take_all, length-drop}
 use Rattle.std.proofs.lemmas.Bool.Decides.{nat_tests}
 use Rattle.std.specs.Str.{bytes_eq}
@@ -80,10 +80,7 @@ chosen true i j e = (refl, same_Some _ _ e)
 chosen false i j e = absurd cc
 
 pub place_found : (p : ℕ → Bool) (xs : List ℕ) (i : ℕ) → Some i ≡ position p xs → IsPlace p xs i
-place_found p xs i e =
-    let c = chosen (nat_lt (position_or_len p xs) (length xs)) (position_or_len p xs) i (sym e) in
-    let inside : position_or_len p xs < length xs = grind (arith, nat_tests, c.0) in
-    record { place = c.1; within = rw c.1 at inside }
+place_found p xs i e = grind (arith, nat_tests, chosen)
 
 not_chosen : (b : Bool) (i : ℕ) → cond b (Some i) None ≡ None → b ≡ false
 not_chosen true i e = absurd cc
@@ -95,11 +92,7 @@ no_level (Some v) = refl
 
 -- a word without the mark says no pair
 pub pair_missing : (mark : ℕ) (w : List ℕ) → None ≡ position (λ b. b == mark) w → pair_of mark w ≡ None
-pair_missing mark w e =
-    let n = not_chosen (nat_lt (position_or_len (λ b. b == mark) w) (length w)) (position_or_len (λ b. b == mark) w) (sym e) in
-    let past : length w ≤ position_or_len (λ b. b == mark) w + 1 = grind (arith, nat_tests, n) in
-    let none : after_first (λ b. b == mark) w ≡ [] = drop_all (position_or_len (λ b. b == mark) w + 1) w past in
-    rw none (no_level (number_of (before_first (λ b. b == mark) w)))
+pair_missing mark w e = grind (arith, nat_tests, not_chosen, drop_all, no_level)
 
 pub pair_there : (mark : ℕ) (w : List ℕ) (at : ℕ) → IsPlace (λ b. b == mark) w at → pair_of mark w ≡ reply_with (number_of (take at w)) (level_in (number_of (drop (at + 1) w)))
 pair_there mark w at h = rw h.place refl

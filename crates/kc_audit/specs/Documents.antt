@@ -55,6 +55,7 @@ left_after Insertion true = Some NoPhase
 left_after Insertion false = None
 left_after NoPhase add = None
 
+-- the step of a phase line, by the phases that may follow it in its batch; none if the phase may not come
 abbrev pub groups_after : RunText → ℕ → ℕ → Option PhasesLeft → Step
 groups_after run batch phase (Some left) = Goes run (Groups (record { batch = batch; phase = phase; left = left }) 0)
 groups_after run batch phase None = Stops BadLine
@@ -73,9 +74,11 @@ abbrev pub is_group : ℕ → List Reply → Bool
 is_group label [] = false
 is_group label (m ∷ ms) = (m.vertex == label) && rises_from label (m ∷ ms)
 
+-- the run with one more group line
 abbrev pub with_group : RunText → ℕ → ℕ → List Reply → RunText
 with_group run phase label ms = record { vertices = run.vertices; groups = run.groups ++ record { phase = phase; label = label; members = ms } ∷ []; readers = run.readers }
 
+-- the step of a group line by its members, if its words are pairs: members ascend from the label and are vertices
 abbrev pub members_step : RunText → Place → ℕ → Option (List Reply) → Step
 members_step run place label (Some ms) =
     if is_group label ms then (if are_below run.vertices ms then Goes (with_group run place.phase label ms) (Groups place (suc label)) else Stops BadVertex)
@@ -86,9 +89,11 @@ members_step run place label None = Stops BadLine
 abbrev pub group_step : RunText → Place → ℕ → ℕ → ℕ → List (List ℕ) → Step
 group_step run place low phase label members = if (phase == place.phase) && nat_le low label then members_step run place label (pairs_of 58 members) else Stops BadLine
 
+-- the run with one more reader
 abbrev pub with_reader : RunText → List Reply → RunText
 with_reader run rs = record { vertices = run.vertices; groups = run.groups; readers = run.readers ++ rs ∷ [] }
 
+-- the step of a reader line by its replies, if its words are pairs: there is one, and all are of vertices
 abbrev pub replies_step : RunText → Option (List Reply) → Step
 replies_step run (Some rs) =
     if nat_lt 0 (length rs) then (if are_below run.vertices rs then Goes (with_reader run rs) Readers else Stops BadVertex)
@@ -140,6 +145,7 @@ step_of run Readers k = readers_step run k
 step_of run (VertexLines next) k = vertices_step run next k
 step_of run Closed k = closed_step run k
 
+-- the document after the step of a line; `next` gives the document of the lines that follow
 abbrev pub act : ℕ → Step → (RunText → Stage → Document) → Document
 act number (Goes run stage) next = next run stage
 act number (Ends run) next = Accepted run

@@ -55,18 +55,12 @@ is_refusal (r ∷ l ∷ n ∷ []) = false
 is_refusal (r ∷ l ∷ n ∷ reason ∷ []) = bytes_eq r (codes "refused") && (bytes_eq l (codes "line") && (is_some (number_of n) && names_reason reason))
 is_refusal (r ∷ l ∷ n ∷ reason ∷ w ∷ ws) = false
 
--- the kind of a line by what follows `vertices`
-abbrev pub vertices_kind : Option (ℕ × List (List ℕ)) → Kind
-vertices_kind (Some p) = if is_nothing p.1 then Vertices p.0 else Other
-vertices_kind None = Other
-
--- the kind of a line by what follows `batch`
-abbrev pub batch_kind : Option (ℕ × List (List ℕ)) → Kind
-batch_kind (Some p) =
-    if has_fields (words (codes "loops repeats idle removed added")) p.1 then Accepted p.0
-    else if is_refusal p.1 then Refused p.0
+-- the kind of a line by what follows `batch T`
+abbrev pub batch_kind : ℕ → List (List ℕ) → Kind
+batch_kind t ws =
+    if has_fields (words (codes "loops repeats idle removed added")) ws then Accepted t
+    else if is_refusal ws then Refused t
     else Other
-batch_kind None = Other
 
 -- whether a phase inserts, by the word of its direction
 abbrev pub direction_of : List ℕ → Option Bool
@@ -75,6 +69,7 @@ direction_of w =
     else if bytes_eq w (codes "delete") then Some false
     else None
 
+-- the kind of a line `phase P` by its direction, and by whether the rest is `quiet E`
 abbrev pub phase_with : ℕ → Option Bool → Bool → Kind
 phase_with p (Some add) true = Phase p add
 phase_with p (Some add) false = Other
@@ -85,43 +80,33 @@ unfoldable pub direction_kind : ℕ → List (List ℕ) → Kind
 direction_kind p [] = Other
 direction_kind p (w ∷ ws) = phase_with p (direction_of w) (has_fields (words (codes "quiet")) ws)
 
--- the kind of a line by what follows `phase`
-abbrev pub phase_kind : Option (ℕ × List (List ℕ)) → Kind
-phase_kind (Some p) = direction_kind p.0 p.1
-phase_kind None = Other
-
 -- the kind of a line by what follows `group P`
 abbrev pub label_kind : ℕ → Option (ℕ × List (List ℕ)) → Kind
 label_kind p (Some l) = Group p l.0 l.1
 label_kind p None = Other
 
--- the kind of a line by what follows `group`
-abbrev pub group_kind : Option (ℕ × List (List ℕ)) → Kind
-group_kind (Some p) = label_kind p.0 (first_number p.1)
-group_kind None = Other
+-- the kind of a line by its first word, the number after it, and the words after both
+abbrev pub numbered_kind : List ℕ → ℕ → List (List ℕ) → Kind
+numbered_kind name n ws =
+    if bytes_eq name (codes "group") then label_kind n (first_number ws)
+    else if bytes_eq name (codes "reader") then Reader n ws
+    else if bytes_eq name (codes "vertex") && has_fields (words (codes "level est low high up down")) ws then Vertex n
+    else if bytes_eq name (codes "phase") then direction_kind n ws
+    else if bytes_eq name (codes "batch") then batch_kind n ws
+    else if bytes_eq name (codes "vertices") && is_nothing ws then Vertices n
+    else Other
 
--- the kind of a line by what follows `reader`
-abbrev pub reader_kind : Option (ℕ × List (List ℕ)) → Kind
-reader_kind (Some r) = Reader r.0 r.1
-reader_kind None = Other
-
--- the kind of a line by what follows `vertex`
-abbrev pub vertex_kind : Option (ℕ × List (List ℕ)) → Kind
-vertex_kind (Some v) = if has_fields (words (codes "level est low high up down")) v.1 then Vertex v.0 else Other
-vertex_kind None = Other
+-- the kind of a line by its first word and what follows, if that begins with a number
+abbrev pub kind_with : List ℕ → Option (ℕ × List (List ℕ)) → Kind
+kind_with name (Some p) = numbered_kind name p.0 p.1
+kind_with name None = Other
 
 -- the kind of a line by its first word and the words after it
 abbrev pub named_kind : List ℕ → List (List ℕ) → Kind
 named_kind name ws =
-    if bytes_eq name (codes "group") then group_kind (first_number ws)
-    else if bytes_eq name (codes "reader") then reader_kind (first_number ws)
-    else if bytes_eq name (codes "vertex") then vertex_kind (first_number ws)
-    else if bytes_eq name (codes "phase") then phase_kind (first_number ws)
-    else if bytes_eq name (codes "batch") then batch_kind (first_number ws)
-    else if bytes_eq name (codes "vertices") then vertices_kind (first_number ws)
-    else if bytes_eq name (codes "kcore-run") then (if is_version ws then Head else Other)
-    else if bytes_eq name (codes "end") then (if is_nothing ws then Close else Other)
-    else Other
+    if bytes_eq name (codes "kcore-run") && is_version ws then Head
+    else if bytes_eq name (codes "end") && is_nothing ws then Close
+    else kind_with name (first_number ws)
 
 -- the kind of a line by its words
 unfoldable pub kind_of_words : List (List ℕ) → Kind

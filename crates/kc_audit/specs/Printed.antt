@@ -34,10 +34,14 @@ IsRefusedReason _ = Unit {0}
 abbrev pub direction_word : Bool → List ℕ
 direction_word add = if add then codes "insert" else codes "delete"
 
--- each line of a run has its kind
-pub record LinesSayKinds : Type 0 where
+-- the first two lines of a run and its last line have their kinds
+pub record FrameSaysKinds : Type 0 where
   pub head : Says (codes "kcore-run" ∷ codes "1" ∷ []) Head
   pub vertices : (n : ℕ) → IsSmall n → Says (codes "vertices" ∷ decimal n ∷ []) (Vertices n)
+  pub end : Says (codes "end" ∷ []) Close
+
+-- the lines of batches, of phases and of groups have their kinds
+pub record BatchesSayKinds : Type 0 where
   pub accepted : (t a b c d i : ℕ) → IsSmall t → IsSmall a → IsSmall b → IsSmall c → IsSmall d → IsSmall i
       → Says (codes "batch" ∷ decimal t ∷ codes "loops" ∷ decimal a ∷ codes "repeats" ∷ decimal b ∷ codes "idle" ∷ decimal c ∷ codes "removed" ∷ decimal d ∷ codes "added" ∷ decimal i ∷ []) (Accepted t)
   pub refused : (t n : ℕ) (r : Reason) → IsSmall t → IsSmall n → IsRefusedReason r
@@ -45,10 +49,18 @@ pub record LinesSayKinds : Type 0 where
   pub phase : (p e : ℕ) (add : Bool) → IsSmall p → IsSmall e → Says (codes "phase" ∷ decimal p ∷ direction_word add ∷ codes "quiet" ∷ decimal e ∷ []) (Phase p add)
   pub group : (p label : ℕ) (ms : List Reply) → IsSmall p → IsSmall label → AreSmall ms
       → Says (codes "group" ∷ decimal p ∷ decimal label ∷ pair_words 58 ms) (Group p label (pair_words 58 ms))
+
+-- the lines of readers and of vertices have their kinds
+pub record LevelsSayKinds : Type 0 where
   pub reader : (r : ℕ) (rs : List Reply) → IsSmall r → AreSmall rs → Says (codes "reader" ∷ decimal r ∷ pair_words 61 rs) (Reader r (pair_words 61 rs))
   pub vertex : (v l e lo hi u d : ℕ) → IsSmall v → IsSmall l → IsSmall e → IsSmall lo → IsSmall hi → IsSmall u → IsSmall d
       → Says (codes "vertex" ∷ decimal v ∷ codes "level" ∷ decimal l ∷ codes "est" ∷ decimal e ∷ codes "low" ∷ decimal lo ∷ codes "high" ∷ decimal hi ∷ codes "up" ∷ decimal u ∷ codes "down" ∷ decimal d ∷ []) (Vertex v)
-  pub end : Says (codes "end" ∷ []) Close
+
+-- each line of a run has its kind
+pub record LinesSayKinds : Type 0 where
+  pub frame : FrameSaysKinds
+  pub batches : BatchesSayKinds
+  pub levels : LevelsSayKinds
 
 -- lines of words have these kinds, and the input ends after the lines
 abbrev pub SayAll : List (List (List ℕ)) → List Kind → Type 0

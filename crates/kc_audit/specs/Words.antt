@@ -10,6 +10,7 @@ abbrev pub is_nothing : List (List ℕ) → Bool
 is_nothing [] = true
 is_nothing (w ∷ ws) = false
 
+-- a number that was read, and the words after it
 abbrev pub before_words : Option ℕ → List (List ℕ) → Option (ℕ × List (List ℕ))
 before_words (Some n) ws = Some (n, ws)
 before_words None ws = None
@@ -31,6 +32,7 @@ abbrev pub level_in : Option ℕ → Option ℕ
 level_in (Some l) = if nat_le l 65535 then Some l else None
 level_in None = None
 
+-- the reply of a vertex and a level, if both were read
 abbrev pub reply_with : Option ℕ → Option ℕ → Option Reply
 reply_with (Some v) (Some l) = Some (record { vertex = v; level = l })
 reply_with (Some v) None = None
@@ -40,6 +42,7 @@ reply_with None l = None
 abbrev pub pair_of : ℕ → List ℕ → Option Reply
 pair_of mark w = reply_with (number_of (before_first (λ b. b == mark) w)) (level_in (number_of (after_first (λ b. b == mark) w)))
 
+-- a pair before others, if all were read
 abbrev pub pair_before : Option Reply → Option (List Reply) → Option (List Reply)
 pair_before (Some r) (Some rs) = Some (r ∷ rs)
 pair_before (Some r) None = None

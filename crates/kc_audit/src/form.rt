@@ -3,7 +3,7 @@ ghost use Rattle.std.specs.Prelude.{◌≡◌, ◌≤◌, length, drop, false, I
 ghost use Rattle.kc_text.specs.Words.{words};
 ghost use Rattle.kc_text.specs.Kept.{text_of};
 ghost use Rattle.kc_audit.specs.Words.{first_number};
-ghost use Rattle.kc_audit.specs.Kinds.{is_version, names_reason, is_refusal, vertices_kind, batch_kind, direction_of, direction_kind, phase_kind, group_kind, reader_kind, vertex_kind, named_kind, kind_of_words, kind_of};
+ghost use Rattle.kc_audit.specs.Kinds.{is_version, names_reason, is_refusal, batch_kind, direction_of, direction_kind, label_kind, numbered_kind, named_kind, kind_of_words, kind_of};
 ghost use Rattle.kc_audit.specs.private.Kinds.{kind_told, IsWithin};
 
 use crate::words::{has_fields, is_at_end, number_at};
@@ -99,28 +99,15 @@ fn is_refusal(text: &[u8]) -> bool
     refusal_in(text).unwrap_or(false)
 }
 
-fn vertices_form(text: &[u8], from: usize) -> Form
+// Returns the form of a line `batch T` that goes on at `from`.
+fn batch_form(text: &[u8], batch: u32, from: usize) -> Form
     requires { from ≤ length text.now }
-    ensures kind { kind_told text.now result ≡ vertices_kind (first_number (words (drop from text.now))) }
+    ensures kind { kind_told text.now result ≡ batch_kind batch (words (drop from text.now)) }
     ensures within { IsWithin text.now result }
 {
-    match number_at(text, from) {
-        Some((n, end)) if is_at_end(text, end) => Form::Vertices(n),
-        _ => Form::Other,
-    }
-}
-
-fn batch_form(text: &[u8], from: usize) -> Form
-    requires { from ≤ length text.now }
-    ensures kind { kind_told text.now result ≡ batch_kind (first_number (words (drop from text.now))) }
-    ensures within { IsWithin text.now result }
-{
-    let Some((batch, end)) = number_at(text, from) else {
-        return Form::Other;
-    };
-    if has_fields(text, end, b"loops repeats idle removed added") {
+    if has_fields(text, from, b"loops repeats idle removed added") {
         Form::Accepted(batch)
-    } else if is_refusal(&text[end..]) {
+    } else if is_refusal(&text[from..]) {
         Form::Refused(batch)
     } else {
         Form::Other
@@ -139,8 +126,9 @@ fn direction_of(word: &[u8]) -> Option<bool>
     }
 }
 
+// Returns the form of a line `phase P` that goes on at `from`.
 #[tactic(auto, unfolding(crate::specs::Kinds::direction_kind))]
-fn direction_form(text: &[u8], from: usize, phase: u32) -> Form
+fn phase_form(text: &[u8], phase: u32, from: usize) -> Form
     requires { from ≤ length text.now }
     ensures kind { kind_told text.now result ≡ direction_kind phase (words (drop from text.now)) }
     ensures within { IsWithin text.now result }
@@ -154,80 +142,60 @@ fn direction_form(text: &[u8], from: usize, phase: u32) -> Form
     }
 }
 
-fn phase_form(text: &[u8], from: usize) -> Form
+// Returns the form of a line `group P` that goes on at `from`.
+fn group_form(text: &[u8], phase: u32, from: usize) -> Form
     requires { from ≤ length text.now }
-    ensures kind { kind_told text.now result ≡ phase_kind (first_number (words (drop from text.now))) }
+    ensures kind { kind_told text.now result ≡ label_kind phase (first_number (words (drop from text.now))) }
     ensures within { IsWithin text.now result }
 {
-    number_at(text, from).map_or(Form::Other, |(phase, end)| direction_form(text, end, phase))
-}
-
-fn group_form(text: &[u8], from: usize) -> Form
-    requires { from ≤ length text.now }
-    ensures kind { kind_told text.now result ≡ group_kind (first_number (words (drop from text.now))) }
-    ensures within { IsWithin text.now result }
-{
-    let Some((phase, end)) = number_at(text, from) else {
-        return Form::Other;
-    };
-    match number_at(text, end) {
+    match number_at(text, from) {
         Some((label, from)) => Form::Group { phase, label, from },
         None => Form::Other,
     }
 }
 
-fn reader_form(text: &[u8], from: usize) -> Form
+// Returns the form of a line that begins with this word and this number and goes on at `from`. Group lines are tested
+// first, since most lines are group lines.
+fn numbered_form(name: &[u8], number: u32, text: &[u8], from: usize) -> Form
     requires { from ≤ length text.now }
-    ensures kind { kind_told text.now result ≡ reader_kind (first_number (words (drop from text.now))) }
+    ensures kind { kind_told text.now result ≡ numbered_kind name.now number (words (drop from text.now)) }
     ensures within { IsWithin text.now result }
 {
-    number_at(text, from).map_or(Form::Other, |(reader, from)| Form::Reader { reader, from })
-}
-
-fn vertex_form(text: &[u8], from: usize) -> Form
-    requires { from ≤ length text.now }
-    ensures kind { kind_told text.now result ≡ vertex_kind (first_number (words (drop from text.now))) }
-    ensures within { IsWithin text.now result }
-{
-    match number_at(text, from) {
-        Some((v, end)) if has_fields(text, end, b"level est low high up down") => Form::Vertex(v),
-        _ => Form::Other,
+    if is_named(name, b"group") {
+        group_form(text, number, from)
+    } else if is_named(name, b"reader") {
+        Form::Reader {
+            reader: number,
+            from,
+        }
+    } else if is_named(name, b"vertex") && has_fields(text, from, b"level est low high up down") {
+        Form::Vertex(number)
+    } else if is_named(name, b"phase") {
+        phase_form(text, number, from)
+    } else if is_named(name, b"batch") {
+        batch_form(text, number, from)
+    } else if is_named(name, b"vertices") && is_at_end(text, from) {
+        Form::Vertices(number)
+    } else {
+        Form::Other
     }
 }
 
-// Returns the form of a line that begins with this word and goes on at `from`. Group lines are tested first, since most
-// lines are group lines.
+// Returns the form of a line that begins with this word and goes on at `from`.
 fn named_form(name: &[u8], text: &[u8], from: usize) -> Form
     requires { from ≤ length text.now }
     ensures kind { kind_told text.now result ≡ named_kind name.now (words (drop from text.now)) }
     ensures within { IsWithin text.now result }
 {
-    if is_named(name, b"group") {
-        group_form(text, from)
-    } else if is_named(name, b"reader") {
-        reader_form(text, from)
-    } else if is_named(name, b"vertex") {
-        vertex_form(text, from)
-    } else if is_named(name, b"phase") {
-        phase_form(text, from)
-    } else if is_named(name, b"batch") {
-        batch_form(text, from)
-    } else if is_named(name, b"vertices") {
-        vertices_form(text, from)
-    } else if is_named(name, b"kcore-run") {
-        if is_version(&text[from..]) {
-            Form::Head
-        } else {
-            Form::Other
-        }
-    } else if is_named(name, b"end") {
-        if is_at_end(text, from) {
-            Form::Close
-        } else {
-            Form::Other
-        }
-    } else {
-        Form::Other
+    if is_named(name, b"kcore-run") && is_version(&text[from..]) {
+        return Form::Head;
+    }
+    if is_named(name, b"end") && is_at_end(text, from) {
+        return Form::Close;
+    }
+    match number_at(text, from) {
+        Some((number, end)) => numbered_form(name, number, text, end),
+        None => Form::Other,
     }
 }
 

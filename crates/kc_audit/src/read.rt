@@ -7,7 +7,7 @@ ghost use Rattle.kc_audit.specs.Reads.{Answers, AuditCause};
 ghost use Rattle.kc_audit.specs.declared.stage.Stage.TheVariants.{Batches};
 
 use crate::form::{FormLine, form_of};
-use crate::stage::{PhasesLeft, Place, Stage, Turn, head_of, turn_at, vertices_of};
+use crate::stage::{Draft, PhasesLeft, Place, Stage, Turn, head_of, turn_at, vertices_of};
 use crate::{GroupLines, Readers, RunText};
 use kc_text::{LineFault, LineReader, Reason, Source, give_back, next_kept, text_of};
 use std::alloc::{AllocError, Global};
@@ -62,31 +62,28 @@ fn read_lines<S: Source>(
     ensures sound { IfOk result IsAuditable }
     ensures cause { AuditCause (S.faults src.old) (S.faults src.new) result }
 {
-    let mut run = RunText {
-        vertices: n,
-        groups: GroupLines::new(alloc),
-        readers: Readers::new(alloc),
+    let mut draft = Draft {
+        alloc,
+        run: RunText {
+            vertices: n,
+            groups: GroupLines::new(alloc),
+            readers: Readers::new(alloc),
+        },
+        members: Vec::new(alloc),
     };
     let mut stage = Stage::Batches(Place {
         batch: 0,
         phase: 0,
         left: PhasesLeft::NoPhase,
     });
-    let mut members = Vec::new(alloc);
     loop {
         let line = next_kept(alloc, reader, src)?;
         let number = line.number;
         let form = form_of(&line);
         let text = text_of(&line);
-        match turn_at(
-            alloc,
-            &mut run,
-            stage,
-            &FormLine { form, text },
-            &mut members,
-        )? {
+        match turn_at(&mut draft, stage, &FormLine { form, text })? {
             Turn::Go(next) => stage = next,
-            Turn::End => return Ok(run),
+            Turn::End => return Ok(draft.run),
             Turn::Stop(reason) => {
                 return Err(AuditFault::Refused {
                     line: number,
@@ -109,12 +106,12 @@ fn read_lines<S: Source>(
 /// only those are checked that count batches, phases, readers and vertices. Whatever the source has, the run can be
 /// audited (`IsAuditable` of `specs/Runs`).
 ///
-/// - `Refused` has the first line that doesn't fit, and the reason. `BadVertex` is for a group or a reader line that
-///   would fit if all its vertices were below N.
-/// - `ReadFault` comes only if the source's count of faults rose.
-/// - `Memory`: no memory for a line, a group or the replies of a reader.
+/// Fails with one of three faults. After each the reader isn't used again, since lines of the text are gone.
 ///
-/// After each of the three the reader can't be used again, since lines of the text are gone.
+/// - `Refused`: the first line that doesn't fit, with its reason. `BadVertex` is for a group or a reader line that
+///   would fit if all its vertices were below N.
+/// - `ReadFault`: a read failed. It comes only if the source's count of faults rose.
+/// - `Memory`: no memory for a line, a group or the replies of a reader.
 ///
 /// Cost: one pass over the bytes, and memory for the longest line, which is used again. Each group takes 16 bytes, and
 /// each member and each reply 8.

@@ -20,8 +20,8 @@ pub struct RunText {
     pub readers: Readers,
 }
 
-// The greatest number of readers, and of the replies of each, so that each can be numbered.
-const MAX_ITEMS: usize = 4_294_967_294;
+/// The greatest number of readers, and of the replies of each, so that each can be numbered.
+pub(crate) const MAX_ITEMS: usize = 4_294_967_294;
 
 // Returns whether the vertices of these replies are below n.
 pub(crate) fn are_below(n: u32, replies: &[Reply]) -> bool
@@ -45,23 +45,15 @@ fn have_members_below(n: u32, groups: &GroupLines) -> bool
 fn have_replies_below(n: u32, readers: &[Replies]) -> bool
     ensures { IsTrue result ↔ All (AreBelow n) readers.now }
 {
-    for replies in readers {
-        if !are_below(n, replies.as_slice()) {
-            return false;
-        }
-    }
-    true
+    readers
+        .iter()
+        .all(|replies| are_below(n, replies.as_slice()))
 }
 
 fn have_few_replies(readers: &[Replies]) -> bool
     ensures { IsTrue result ↔ All (λ rs. length rs ≤ 4294967294) readers.now }
 {
-    for replies in readers {
-        if replies.len() > MAX_ITEMS {
-            return false;
-        }
-    }
-    true
+    readers.iter().all(|replies| replies.len() <= MAX_ITEMS)
 }
 
 impl RunText {

@@ -10,7 +10,7 @@ ghost use Rattle.kc_audit.specs.declared.run_text.RunText.{RunText};
 
 use crate::RunText;
 use crate::form::{Form, FormLine};
-use crate::run_text::are_below;
+use crate::run_text::{MAX_ITEMS, are_below};
 use crate::words::read_pairs;
 use kc_history::{MAX_VERTICES, Replies, Reply};
 use kc_text::Reason;
@@ -19,12 +19,10 @@ use std::alloc::{AllocError, Global};
 // The greatest number of readers.
 const MAX_READERS: u32 = 64;
 
-// The greatest number of replies of a reader, so that each can be numbered. No line is long enough for more.
-const MAX_REPLIES: usize = 4_294_967_294;
-
 /// The phase lines that may still come in a batch.
 #[derive(Clone, Copy, Debug, PartialEq, Eq)]
 pub enum PhasesLeft {
+    /// None.
     NoPhase,
     /// One that inserts.
     Insertion,
@@ -56,6 +54,17 @@ pub enum Stage {
     VertexLines { next: u32 },
     /// The lines after `end`.
     Closed,
+}
+
+/// A run while it is read, and what reading it needs.
+#[derive(Drop)]
+pub struct Draft {
+    /// Gives the memory for groups and replies.
+    pub alloc: Global,
+    /// The run up to the last line.
+    pub run: RunText,
+    /// The members of a group line pass through here.
+    pub members: Vec<Reply>,
 }
 
 /// What a line does.
@@ -201,46 +210,36 @@ fn members_turn(
 }
 
 // Takes the replies of a reader line.
-fn replies_turn(
-    alloc: Global,
-    run: &mut RunText,
-    text: &[u8],
-    from: usize,
-) -> Result<Turn, AllocError>
+fn replies_turn(draft: &mut Draft, text: &[u8], from: usize) -> Result<Turn, AllocError>
     requires within { from ≤ length text.now }
-    requires few { length run.old.readers < 64 }
-    ensures step { IfOk result (λ turn. replies_step run.old (pairs_of 61 (words (drop from text.now))) ≡ step_told run.new turn) }
-    ensures sound { IsAuditable run.old → OnOk result (IsAuditable run.new) }
+    requires few { length draft.old.run.readers < 64 }
+    ensures step { IfOk result (λ turn. replies_step draft.old.run (pairs_of 61 (words (drop from text.now))) ≡ step_told draft.new.run turn) }
+    ensures sound { IsAuditable draft.old.run → OnOk result (IsAuditable draft.new.run) }
 {
-    let mut replies = Vec::new(alloc);
+    let mut replies = Vec::new(draft.alloc);
     if !read_pairs(text, from, b'=', &mut replies)? || replies.is_empty() {
         return Ok(Turn::Stop(Reason::BadLine));
     }
-    if !are_below(run.vertices, &replies) {
+    if !are_below(draft.run.vertices, &replies) {
         return Ok(Turn::Stop(Reason::BadVertex));
     }
-    if replies.len() > MAX_REPLIES {
+    if replies.len() > MAX_ITEMS {
+        // No line is long enough for more than `MAX_ITEMS` replies.
         return Err(AllocError);
     }
-    run.readers.push(Replies::from_vec(replies))?;
+    draft.run.readers.push(Replies::from_vec(replies))?;
     Ok(Turn::Go(Stage::Readers))
 }
 
-fn reader_turn(
-    alloc: Global,
-    run: &mut RunText,
-    reader: u32,
-    text: &[u8],
-    from: usize,
-) -> Result<Turn, AllocError>
+fn reader_turn(draft: &mut Draft, reader: u32, text: &[u8], from: usize) -> Result<Turn, AllocError>
     requires { from ≤ length text.now }
-    ensures step { IfOk result (λ turn. reader_step run.old reader (words (drop from text.now)) ≡ step_told run.new turn) }
-    ensures sound { IsAuditable run.old → OnOk result (IsAuditable run.new) }
+    ensures step { IfOk result (λ turn. reader_step draft.old.run reader (words (drop from text.now)) ≡ step_told draft.new.run turn) }
+    ensures sound { IsAuditable draft.old.run → OnOk result (IsAuditable draft.new.run) }
 {
-    if reader as usize != run.readers.len() || reader >= MAX_READERS {
+    if reader as usize != draft.run.readers.len() || reader >= MAX_READERS {
         return Ok(Turn::Stop(Reason::BadLine));
     }
-    replies_turn(alloc, run, text, from)
+    replies_turn(draft, text, from)
 }
 
 fn vertex_turn(run: &RunText, next: u32, v: u32) -> Turn
@@ -253,67 +252,52 @@ fn vertex_turn(run: &RunText, next: u32, v: u32) -> Turn
     }
 }
 
-fn readers_turn(alloc: Global, run: &mut RunText, line: &FormLine<'_>) -> Result<Turn, AllocError>
+fn readers_turn(draft: &mut Draft, line: &FormLine<'_>) -> Result<Turn, AllocError>
     requires { IsWithin line.now.text.now line.now.form }
-    ensures step { IfOk result (λ turn. readers_step run.old (kind_told line.now.text.now line.now.form) ≡ step_told run.new turn) }
-    ensures sound { IsAuditable run.old → OnOk result (IsAuditable run.new) }
+    ensures step { IfOk result (λ turn. readers_step draft.old.run (kind_told line.now.text.now line.now.form) ≡ step_told draft.new.run turn) }
+    ensures sound { IsAuditable draft.old.run → OnOk result (IsAuditable draft.new.run) }
 {
     match line.form {
-        Form::Reader { reader, from } => reader_turn(alloc, run, reader, line.text, from),
-        Form::Vertex(v) => Ok(vertex_turn(run, 0, v)),
+        Form::Reader { reader, from } => reader_turn(draft, reader, line.text, from),
+        Form::Vertex(v) => Ok(vertex_turn(&draft.run, 0, v)),
         _ => Ok(Turn::Stop(misfit(line.form))),
     }
 }
 
-fn batches_turn(
-    alloc: Global,
-    run: &mut RunText,
-    place: Place,
-    line: &FormLine<'_>,
-) -> Result<Turn, AllocError>
+fn batches_turn(draft: &mut Draft, place: Place, line: &FormLine<'_>) -> Result<Turn, AllocError>
     requires { IsWithin line.now.text.now line.now.form }
-    ensures step { IfOk result (λ turn. batches_step run.old place (kind_told line.now.text.now line.now.form) ≡ step_told run.new turn) }
-    ensures sound { IsAuditable run.old → OnOk result (IsAuditable run.new) }
+    ensures step { IfOk result (λ turn. batches_step draft.old.run place (kind_told line.now.text.now line.now.form) ≡ step_told draft.new.run turn) }
+    ensures sound { IsAuditable draft.old.run → OnOk result (IsAuditable draft.new.run) }
 {
     match line.form {
         Form::Accepted(batch) => Ok(batch_turn(place, batch, PhasesLeft::AnyPhase)),
         Form::Refused(batch) => Ok(batch_turn(place, batch, PhasesLeft::NoPhase)),
         Form::Phase { phase, add } => Ok(phase_turn(place, phase, add)),
-        _ => readers_turn(alloc, run, line),
+        _ => readers_turn(draft, line),
     }
 }
 
-// The phase whose group lines may come.
-#[derive(Clone, Copy)]
-struct OpenPhase {
-    // The place after the line of the phase.
-    place: Place,
-    // The least label that the next group line may have.
-    low: u32,
-}
-
+// Takes a line after the line of a phase or of one of its groups; the next label is at least `low`.
 fn groups_turn(
-    alloc: Global,
-    run: &mut RunText,
-    current: OpenPhase,
+    draft: &mut Draft,
+    place: Place,
+    low: u32,
     line: &FormLine<'_>,
-    members: &mut Vec<Reply>,
 ) -> Result<Turn, AllocError>
     requires { IsWithin line.now.text.now line.now.form }
-    ensures step { IfOk result (λ turn. groups_step run.old current.place current.low (kind_told line.now.text.now line.now.form) ≡ step_told run.new turn) }
-    ensures sound { IsAuditable run.old → OnOk result (IsAuditable run.new) }
+    ensures step { IfOk result (λ turn. groups_step draft.old.run place low (kind_told line.now.text.now line.now.form) ≡ step_told draft.new.run turn) }
+    ensures sound { IsAuditable draft.old.run → OnOk result (IsAuditable draft.new.run) }
 {
-    let OpenPhase { place, low } = current;
-    match line.form {
-        Form::Group { phase, label, from } => {
-            if phase == place.phase && low <= label && read_pairs(line.text, from, b':', members)? {
-                members_turn(run, place, label, members)
-            } else {
-                Ok(Turn::Stop(Reason::BadLine))
-            }
-        }
-        _ => batches_turn(alloc, run, place, line),
+    let Form::Group { phase, label, from } = line.form else {
+        return batches_turn(draft, place, line);
+    };
+    if phase != place.phase || label < low {
+        return Ok(Turn::Stop(Reason::BadLine));
     }
+    if !read_pairs(line.text, from, b':', &mut draft.members)? {
+        return Ok(Turn::Stop(Reason::BadLine));
+    }
+    members_turn(&mut draft.run, place, label, &draft.members)
 }
 
 fn vertices_turn(run: &RunText, next: u32, form: Form) -> Turn
@@ -335,30 +319,17 @@ fn closed_turn(run: &RunText, form: Form) -> Turn
     }
 }
 
-/// Takes a line, which may add a group or a reader to the run. The members of a group line pass through `members`.
-/// After a refusal the run can't be used again.
-pub fn turn_at(
-    alloc: Global,
-    run: &mut RunText,
-    stage: Stage,
-    line: &FormLine<'_>,
-    members: &mut Vec<Reply>,
-) -> Result<Turn, AllocError>
+/// Takes a line, which may add a group or a reader to the run. After a refusal the run can't be used again.
+pub fn turn_at(draft: &mut Draft, stage: Stage, line: &FormLine<'_>) -> Result<Turn, AllocError>
     requires { IsWithin line.now.text.now line.now.form }
-    ensures step { IfOk result (λ turn. step_of run.old stage (kind_told line.now.text.now line.now.form) ≡ step_told run.new turn) }
-    ensures sound { IsAuditable run.old → OnOk result (IsAuditable run.new) }
+    ensures step { IfOk result (λ turn. step_of draft.old.run stage (kind_told line.now.text.now line.now.form) ≡ step_told draft.new.run turn) }
+    ensures sound { IsAuditable draft.old.run → OnOk result (IsAuditable draft.new.run) }
 {
     match stage {
-        Stage::Batches(place) => batches_turn(alloc, run, place, line),
-        Stage::Groups { place, low } => groups_turn(
-            alloc,
-            run,
-            OpenPhase { place, low },
-            line,
-            members,
-        ),
-        Stage::Readers => readers_turn(alloc, run, line),
-        Stage::VertexLines { next } => Ok(vertices_turn(run, next, line.form)),
-        Stage::Closed => Ok(closed_turn(run, line.form)),
+        Stage::Batches(place) => batches_turn(draft, place, line),
+        Stage::Groups { place, low } => groups_turn(draft, place, low, line),
+        Stage::Readers => readers_turn(draft, line),
+        Stage::VertexLines { next } => Ok(vertices_turn(&draft.run, next, line.form)),
+        Stage::Closed => Ok(closed_turn(&draft.run, line.form)),
     }
 }

@@ -1,9 +1,8 @@
 -- The lines of a header, one after another.
-use Rattle.std.proofs.Common.{ℕ, ◌≡◌, ◌≤◌, ◌<◌, Bool, true, false, List, [], ◌∷◌, ◌++◌, refl, sym, ap, ◌∙◌, append_assoc, arith}
+use Rattle.std.proofs.Common.{ℕ, ◌≡◌, ◌≤◌, ◌<◌, Bool, true, false, List, [], ◌∷◌, ◌++◌, refl, sym, ap, ◌∙◌, arith}
 use Rattle.std.specs.Prelude.{Option, Some, None, All, nat_lt}
 use Rattle.std.specs.List.{list_all}
 use Rattle.std.specs.Option.{option_map}
-use Rattle.std.proofs.lemmas.List.{append-nil}
 use Rattle.std.proofs.lemmas.List.Elements.{All-nil, All-cons}
 use Rattle.std.proofs.lemmas.Bool.Decides.{nat_tests}
 use Rattle.kc_levels.specs.declared.profile.Profile.{Profile}
@@ -12,50 +11,13 @@ use Rattle.kc_text.specs.declared.line.Body.{Body}
 use Rattle.kc_text.specs.declared.line.Body.TheVariants.{Text, TooLong, Limit, End}
 use Rattle.kc_text.specs.Reading.{onto, behind, Takes}
 use Rattle.kc_text.specs.Words.{words, words_from}
-use Rattle.kc_text.specs.Numbers.{number_of}
 use Rattle.kc_text.specs.Kept.{text_of}
 use Rattle.kc_batch.specs.declared.ask.Ask.{Ask}
-use Rattle.kc_batch.specs.Headers.{Accepted, Refused, profile_in, vertices_in, is_ask, number_before, numbers_of, fits_ask, ask_with, ask_in, next_ask, asks_from, after_profile, header_of, IsAsk}
+use Rattle.kc_batch.specs.Headers.{Accepted, Refused, profile_in, vertices_in, is_ask, numbers_of, fits_ask, next_ask, asks_from, after_profile, header_of, IsAsk}
 
 -- the numbers that were read, followed by those of the words after them
 abbrev pub numbers_behind : List ℕ → List (List ℕ) → Option (List ℕ)
 numbers_behind front ws = option_map (λ rest. front ++ rest) (numbers_of ws)
-
-pub numbers_start : (ws : List (List ℕ)) → numbers_of ws ≡ numbers_behind [] ws
-numbers_start ws = same (numbers_of ws)
-  where
-    same : (o : Option (List ℕ)) → o ≡ option_map (λ rest. [] ++ rest) o
-    same None = refl
-    same (Some xs) = refl
-
-more_at : (front : List ℕ) (x : ℕ) (o : Option (List ℕ)) → option_map (λ rest. front ++ rest) (number_before (Some x) o) ≡ option_map (λ rest. (front ++ x ∷ []) ++ rest) o
-more_at front x None = refl
-more_at front x (Some xs) = ap Some (sym (append_assoc front (x ∷ []) xs))
-
--- one more number
-pub numbers_more : (front w : List ℕ) (ws all : List (List ℕ)) (x : ℕ) → all ≡ w ∷ ws → Some x ≡ number_of w → numbers_behind front all ≡ numbers_behind (front ++ x ∷ []) ws
-numbers_more front w ws all x e h = rw (e, ← h) (more_at front x (numbers_of ws))
-
--- a word that is no number
-pub numbers_none : (front w : List ℕ) (ws all : List (List ℕ)) → all ≡ w ∷ ws → None ≡ number_of w → numbers_behind front all ≡ None
-numbers_none front w ws all e h = rw (e, ← h) refl
-
--- the words end here
-pub numbers_end : (front : List ℕ) (all : List (List ℕ)) → all ≡ [] → numbers_behind front all ≡ Some front
-numbers_end front all e = rw e (ap Some (append-nil front))
-
--- the ask of a line by its words
-pub ask_is : (n : ℕ) (name times : List ℕ) (all more vertices : List (List ℕ)) → all ≡ name ∷ more → more ≡ times ∷ vertices → ask_in n all ≡ ask_with n (number_of times) (numbers_of vertices)
-unfolding ask_in
-ask_is n name times all more vertices e f = rw (e, f) refl
-
-with_no_times : (n : ℕ) (vertices : Option (List ℕ)) → ask_with n None vertices ≡ None
-with_no_times n None = refl
-with_no_times n (Some vs) = refl
-
--- an ask line whose second word is no number
-pub ask_no_times : (n : ℕ) (times : Option ℕ) (vertices : Option (List ℕ)) → None ≡ times → ask_with n times vertices ≡ None
-ask_no_times n times vertices e = rw (← e) (with_no_times n vertices)
 
 below : (n : ℕ) (vs : List ℕ) → list_all (λ v. nat_lt v n) vs ≡ true → All (λ v. v < n) vs
 below n [] e = All-nil (λ v. v < n)

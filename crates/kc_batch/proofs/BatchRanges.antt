@@ -1,9 +1,9 @@
 -- Each batch of lines keeps its ranges.
 use Rattle.std.proofs.Common.{ℕ, ◌≡◌, ◌≤◌, Bool, true, false, List, [], ◌∷◌, ◌++◌, nat_le, length, refl, arith}
-use Rattle.std.specs.Prelude.{All, if◌then◌else◌}
+use Rattle.std.specs.Prelude.{All, Option, None, Some, IfSome, if◌then◌else◌}
 use Rattle.std.proofs.lemmas.Bool.Decides.{nat_tests}
 use Rattle.std.proofs.lemmas.List.{length_push}
-use Rattle.std.proofs.lemmas.List.Elements.{All-nil, All-cons, All-push}
+use Rattle.std.proofs.lemmas.List.Elements.{All-nil, All-cons, All-head, All-tail, All-push}
 use Rattle.kc_graph.specs.Cleaning.{IsInside}
 use Rattle.kc_graph.specs.declared.items.Item.{Item}
 use Rattle.kc_graph.specs.declared.items.Item.TheVariants.{Insert, Delete, Isolate}
@@ -17,7 +17,7 @@ use Rattle.kc_batch.specs.declared.turn.Turn.TheVariants.{Add, Close, Pass, Stop
 use Rattle.kc_batch.specs.declared.batch.Next.{Next}
 use Rattle.kc_batch.specs.Turns.{is_inside, is_allowed, turn_of}
 use Rattle.kc_batch.specs.private.Turns.{IsTurn}
-use Rattle.kc_batch.specs.Batches.{Place, Between, Within, Passing, batches_from, step_between, step_within, step_passing, IsNext}
+use Rattle.kc_batch.specs.Batches.{Place, Between, Within, Passing, Over, step_between, step_within, step_passing, step, before, batches_from, IsNext}
 use Rattle.kc_batch.specs.RangeLaw.{BatchesKeepRanges}
 
 pub inside_is : (n : ℕ) (item : Item) → is_inside n item ≡ true → IsInside n item
@@ -46,48 +46,58 @@ abbrev IsPlace : Rules → Place → Type 0
 IsPlace rules Between = Unit {0}
 IsPlace rules (Within items) = (length items ≤ rules.item_limit) × All (IsInside rules.n) items × All (λ item. is_allowed rules.profile item ≡ true) items
 IsPlace rules Passing = Unit {0}
+IsPlace rules Over = Unit {0}
 
-between_keeps : (rules : Rules) (t : Token) (k : Kind) (within between passing : List Next) → All (IsNext rules) within → All (IsNext rules) between → All (IsNext rules) passing
-    → All (IsNext rules) (step_between t k within between passing)
-between_keeps rules t kind.BatchStart within between passing w b p = w
-between_keeps rules t kind.BatchEnd within between passing w b p = All-cons (IsNext rules) _ _ tt b
-between_keeps rules t (kind.Item item) within between passing w b p = All-cons (IsNext rules) _ _ tt p
-between_keeps rules t kind.Other within between passing w b p = All-cons (IsNext rules) _ _ tt p
-between_keeps rules t kind.TooLong within between passing w b p = All-cons (IsNext rules) _ _ tt p
-between_keeps rules t kind.Limit within between passing w b p = All-cons (IsNext rules) _ [] tt (All-nil (IsNext rules))
-between_keeps rules t kind.InputEnd within between passing w b p = All-nil (IsNext rules)
+-- the facts that hold after a step: those of its place, and those of the batch that it closes or refuses
+abbrev IsStep : Rules → Place × Option Next → Type 0
+IsStep rules s = IsPlace rules s.0 × IfSome s.1 (IsNext rules)
 
-passing_keeps : (rules : Rules) (t : Token) (k : Kind) (between passing : List Next) → All (IsNext rules) between → All (IsNext rules) passing → All (IsNext rules) (step_passing t k between passing)
-passing_keeps rules t kind.BatchStart between passing b p = p
-passing_keeps rules t kind.BatchEnd between passing b p = b
-passing_keeps rules t (kind.Item item) between passing b p = p
-passing_keeps rules t kind.Other between passing b p = p
-passing_keeps rules t kind.TooLong between passing b p = p
-passing_keeps rules t kind.Limit between passing b p = All-cons (IsNext rules) _ [] tt (All-nil (IsNext rules))
-passing_keeps rules t kind.InputEnd between passing b p = All-nil (IsNext rules)
+between_keeps : (rules : Rules) (line : ℕ) (k : Kind) → IsStep rules (step_between line k)
+between_keeps rules line kind.BatchStart = ((omega arith, All-nil (IsInside rules.n), All-nil (λ item. is_allowed rules.profile item ≡ true)), tt)
+between_keeps rules line kind.BatchEnd = (tt, tt)
+between_keeps rules line (kind.Item item) = (tt, tt)
+between_keeps rules line kind.Other = (tt, tt)
+between_keeps rules line kind.TooLong = (tt, tt)
+between_keeps rules line kind.Limit = (tt, tt)
+between_keeps rules line kind.InputEnd = (tt, tt)
+
+passing_keeps : (rules : Rules) (line : ℕ) (k : Kind) → IsStep rules (step_passing line k)
+passing_keeps rules line kind.BatchStart = (tt, tt)
+passing_keeps rules line kind.BatchEnd = (tt, tt)
+passing_keeps rules line (kind.Item item) = (tt, tt)
+passing_keeps rules line kind.Other = (tt, tt)
+passing_keeps rules line kind.TooLong = (tt, tt)
+passing_keeps rules line kind.Limit = (tt, tt)
+passing_keeps rules line kind.InputEnd = (tt, tt)
 
 one_more : (rules : Rules) (items : List Item) (item : Item) → IsPlace rules (Within items) → IsTurn rules (nat_le rules.item_limit (length items)) (Add item) → IsPlace rules (Within (items ++ item ∷ []))
 one_more rules items item p i = (grind (arith, nat_tests, length_push items item, p.0, i.1), All-push (IsInside rules.n) items item p.1 i.0.inside, All-push (λ item. is_allowed rules.profile item ≡ true) items item p.2 i.0.allowed)
 
-within_keeps : (rules : Rules) (items : List Item) (t : Token) (turn : Turn) (more : Item → List Next) (between passing : List Next) → IsPlace rules (Within items) → IsTurn rules (nat_le rules.item_limit (length items)) turn
-    → ((item : Item) → IsPlace rules (Within (items ++ item ∷ [])) → All (IsNext rules) (more item)) → All (IsNext rules) between → All (IsNext rules) passing
-    → All (IsNext rules) (step_within items t turn more between passing)
-within_keeps rules items t (Add item) more between passing p i m b q = m item (one_more rules items item p i)
-within_keeps rules items t Close more between passing p i m b q = All-cons (IsNext rules) _ _ (record { few = p.0; inside = p.1; allowed = p.2 }) b
-within_keeps rules items t (Pass reason) more between passing p i m b q = All-cons (IsNext rules) _ _ i q
-within_keeps rules items t (Stop reason) more between passing p i m b q = All-cons (IsNext rules) _ [] i (All-nil (IsNext rules))
+within_keeps : (rules : Rules) (items : List Item) (line : ℕ) (turn : Turn) → IsPlace rules (Within items) → IsTurn rules (nat_le rules.item_limit (length items)) turn → IsStep rules (step_within items line turn)
+within_keeps rules items line (Add item) p i = (one_more rules items item p i, tt)
+within_keeps rules items line Close p i = (tt, record { few = p.0; inside = p.1; allowed = p.2 })
+within_keeps rules items line (Pass reason) p i = (tt, i)
+within_keeps rules items line (Stop reason) p i = (tt, i)
 
-keeps : (rules : Rules) (place : Place) (ts : List Token) → IsPlace rules place → All (IsNext rules) (batches_from rules place ts)
+step_keeps : (rules : Rules) (place : Place) (t : Token) → IsPlace rules place → IsStep rules (step rules place t)
+step_keeps rules Between t p = between_keeps rules t.number t.kind
+step_keeps rules (Within items) t p = within_keeps rules items t.number _ p (turn_is rules (nat_le rules.item_limit (length items)) t.kind)
+step_keeps rules Passing t p = passing_keeps rules t.number t.kind
+step_keeps rules Over t p = (tt, tt)
+
+all_before : (P : Next → Type 0) (given : Option Next) (rest : List Next) → IfSome given P → All P rest → All P (before given rest)
+all_before P None rest h all = all
+all_before P (Some next) rest h all = All-cons P next rest h all
+
+-- what each step keeps of its place and gives of its batch holds of all batches
+pub steps_give : (rules : Rules) (Token_is : Token → Type 0) (Place_is : Place → Type 0) (Batch_is : Next → Type 0)
+    → ((place : Place) (t : Token) → Token_is t → Place_is place → Place_is (step rules place t).0 × IfSome (step rules place t).1 Batch_is)
+    → (place : Place) (ts : List Token) → All Token_is ts → Place_is place → All Batch_is (batches_from rules place ts)
 unfolding batches_from
-keeps rules place [] p = All-nil (IsNext rules)
-keeps rules Between (t ∷ rest) p =
-    between_keeps rules t t.kind (batches_from rules (Within []) rest) (batches_from rules Between rest) (batches_from rules Passing rest)
-    (keeps rules (Within []) rest (omega arith, All-nil (IsInside rules.n), All-nil (λ item. is_allowed rules.profile item ≡ true))) (keeps rules Between rest tt) (keeps rules Passing rest tt)
-keeps rules (Within items) (t ∷ rest) p =
-    within_keeps rules items t (turn_of rules (nat_le rules.item_limit (length items)) t.kind) (λ item. batches_from rules (Within (items ++ item ∷ [])) rest)
-    (batches_from rules Between rest) (batches_from rules Passing rest) p (turn_is rules (nat_le rules.item_limit (length items)) t.kind)
-    (λ item q. keeps rules (Within (items ++ item ∷ [])) rest q) (keeps rules Between rest tt) (keeps rules Passing rest tt)
-keeps rules Passing (t ∷ rest) p = passing_keeps rules t t.kind (batches_from rules Between rest) (batches_from rules Passing rest) (keeps rules Between rest tt) (keeps rules Passing rest tt)
+steps_give rules Token_is Place_is Batch_is h place [] all p = All-nil Batch_is
+steps_give rules Token_is Place_is Batch_is h place (t ∷ rest) all p =
+    let s = h place t (All-head Token_is t rest all) p in
+    all_before Batch_is (step rules place t).1 _ s.1 (steps_give rules Token_is Place_is Batch_is h (step rules place t).0 rest (All-tail Token_is t rest all) s.0)
 
 pub batches_keep_ranges : BatchesKeepRanges
-batches_keep_ranges rules ts = keeps rules Between ts tt
+batches_keep_ranges rules ts = steps_give rules (λ _. Unit {0}) (IsPlace rules) (IsNext rules) (λ place t _ p. step_keeps rules place t p) Between ts (λ i d h. tt) tt

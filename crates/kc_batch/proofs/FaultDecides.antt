@@ -15,7 +15,7 @@ use Rattle.kc_batch.specs.declared.turn.Turn.TheVariants.{Pass, Stop}
 use Rattle.kc_batch.specs.declared.batch.Next.TheVariants.{Refused}
 use Rattle.kc_graph.specs.Cleaning.{IsInside}
 use Rattle.kc_batch.specs.Turns.{is_inside, turn_of, IsItemOf}
-use Rattle.kc_batch.specs.Batches.{whole, after_end, items_from, batch_of}
+use Rattle.kc_batch.specs.Batches.{whole, Within, after_end, batch_from, batch_of}
 use Rattle.kc_batch.specs.FaultLaw.{line_at, item_lines, items_of, is_passed, FirstFaultDecides}
 
 inside_tests : (n : ℕ) (i : Item) → IsInside n i → is_inside n i ≡ true
@@ -25,42 +25,42 @@ inside_tests n (Isolate v) h = grind (arith, nat_tests, h)
 
 -- an allowed item is added
 adds : (rules : Rules) (m : ℕ) (front : List Item) (i : Item) (rest : List Token) → IsItemOf rules i → length front < rules.item_limit
-    → items_from rules front (line_at m (kind.Item i) ∷ rest) ≡ items_from rules (front ++ i ∷ []) rest
-unfolding items_from
+    → batch_from rules (Within front) (line_at m (kind.Item i) ∷ rest) ≡ batch_from rules (Within (front ++ i ∷ [])) rest
+unfolding batch_from
 adds rules m front i rest h l =
     let full : nat_le rules.item_limit (length front) ≡ false = grind (arith, nat_tests) in
     rw (h.allowed, inside_tests rules.n i h.inside, full) refl
 
 -- several allowed items are added
 adds_all : (rules : Rules) (front : List Item) (ls : List (ℕ × Item)) (rest : List Token) → All (λ l. IsItemOf rules l.1) ls → length front + length ls ≤ rules.item_limit
-    → items_from rules front (item_lines ls ++ rest) ≡ items_from rules (front ++ items_of ls) rest
+    → batch_from rules (Within front) (item_lines ls ++ rest) ≡ batch_from rules (Within (front ++ items_of ls)) rest
 adds_all rules front [] rest h l = rw append-nil refl
 adds_all rules front (x ∷ ls) rest h l =
     adds rules x.0 front x.1 (item_lines ls ++ rest) (All-head (λ l. IsItemOf rules l.1) x ls h) (omega arith)
     ∙ adds_all rules (front ++ x.1 ∷ []) ls rest (All-tail (λ l. IsItemOf rules l.1) x ls h) (rw (length-append front (x.1 ∷ [])) (omega arith))
-    ∙ ap (λ items. items_from rules items rest) (append_assoc front (x.1 ∷ []) (items_of ls))
+    ∙ ap (λ items. batch_from rules (Within items) rest) (append_assoc front (x.1 ∷ []) (items_of ls))
 
 length_items : (ls : List (ℕ × Item)) → length (items_of ls) ≡ length ls
 length_items [] = refl
 length_items (x ∷ ls) = rw (length_items ls) refl
 
 begins : (rules : Rules) (first : ℕ) (ls : List (ℕ × Item)) (rest : List Token) → All (λ l. IsItemOf rules l.1) ls → length ls ≤ rules.item_limit
-    → batch_of rules (line_at first kind.BatchStart ∷ item_lines ls ++ rest) ≡ items_from rules (items_of ls) rest
-unfolding batch_of
+    → batch_of rules (line_at first kind.BatchStart ∷ item_lines ls ++ rest) ≡ batch_from rules (Within (items_of ls)) rest
+unfolding batch_from
 begins rules first ls rest h l = adds_all rules [] ls rest h (omega arith)
 
-closes : (rules : Rules) (last : ℕ) (items : List Item) (rest : List Token) → items_from rules items (line_at last kind.BatchEnd ∷ rest) ≡ (whole items last, rest)
-unfolding items_from
+closes : (rules : Rules) (last : ℕ) (items : List Item) (rest : List Token) → batch_from rules (Within items) (line_at last kind.BatchEnd ∷ rest) ≡ (whole items last, rest)
+unfolding batch_from
 closes rules last items rest = refl
 
 passes : (rules : Rules) (last : ℕ) (items : List Item) (k : Kind) (reason : Reason) (rest : List Token) → turn_of rules (nat_le rules.item_limit (length items)) k ≡ Pass reason
-    → items_from rules items (line_at last k ∷ rest) ≡ (Refused last reason, after_end rest)
-unfolding items_from
+    → batch_from rules (Within items) (line_at last k ∷ rest) ≡ (Refused last reason, after_end rest)
+unfolding batch_from
 passes rules last items k reason rest e = rw e refl
 
 stops : (rules : Rules) (last : ℕ) (items : List Item) (k : Kind) (reason : Reason) (rest : List Token) → turn_of rules (nat_le rules.item_limit (length items)) k ≡ Stop reason
-    → items_from rules items (line_at last k ∷ rest) ≡ (Refused last reason, line_at last k ∷ [])
-unfolding items_from
+    → batch_from rules (Within items) (line_at last k ∷ rest) ≡ (Refused last reason, line_at last k ∷ [])
+unfolding batch_from
 stops rules last items k reason rest e = rw e refl
 
 goes_by : (t : Token) (k : Kind) (rest : List Token) → t.kind ≡ k → is_passed k ≡ true → after_end (t ∷ rest) ≡ after_end rest

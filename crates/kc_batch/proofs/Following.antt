@@ -1,5 +1,5 @@
 -- The batches of an input, one after another.
-use Rattle.std.proofs.Common.{ℕ, ◌≡◌, ◌<◌, Bool, true, false, List, [], ◌∷◌, ◌++◌, refl, sym, ap, ◌∙◌, nat_le, length, arith}
+use Rattle.std.proofs.Common.{ℕ, ◌≡◌, Bool, true, false, List, [], ◌∷◌, ◌++◌, refl, sym, ap, ◌∙◌, nat_le, length}
 use Rattle.std.specs.Prelude.{if◌then◌else◌, Option, None, Some}
 use Rattle.std.specs.Option.{option_map}
 use Rattle.std.proofs.lemmas.Option.{same_Some}
@@ -13,9 +13,16 @@ use Rattle.kc_batch.specs.declared.token.Kind.TheVariants as kind
 use Rattle.kc_batch.specs.declared.turn.Turn.{Turn}
 use Rattle.kc_batch.specs.declared.turn.Turn.TheVariants.{Add, Close, Pass, Stop}
 use Rattle.kc_batch.specs.declared.batch.Next.{Next}
-use Rattle.kc_batch.specs.declared.batch.Next.TheVariants.{Items, Refused, End}
+use Rattle.kc_batch.specs.declared.batch.Next.TheVariants.{Refused}
 use Rattle.kc_batch.specs.Turns.{is_inside, is_allowed, turn_of}
-use Rattle.kc_batch.specs.Batches.{after_end, items_from, batch_of, with_next, batches, batches_from, behind_batch, Within, Passing, TakesBatch}
+use Rattle.kc_batch.specs.Batches.{Place, Between, Within, Passing, Over, after_end, batch_from, with_next, batches, batches_from, behind_batch}
+use Rattle.kc_batch.proofs.Stepping.{item_goes}
+
+-- no batch comes after the end of the input or its limit
+over : (rules : Rules) (ts : List Token) → batches_from rules Over ts ≡ []
+unfolding batches_from
+over rules [] = refl
+over rules (t ∷ rest) = over rules rest
 
 passing_at : (rules : Rules) (k : Kind) (t : Token) (rest : List Token) → t.kind ≡ k → batches_from rules Passing rest ≡ batches rules (after_end rest)
     → batches_from rules Passing (t ∷ rest) ≡ batches rules (after_end (t ∷ rest))
@@ -25,8 +32,8 @@ passing_at rules (kind.Item i) t rest e h = rw e h
 passing_at rules kind.BatchEnd t rest e h = rw e refl
 passing_at rules kind.Other t rest e h = rw e h
 passing_at rules kind.TooLong t rest e h = rw e h
-passing_at rules kind.Limit t rest e h = rw e refl
-passing_at rules kind.InputEnd t rest e h = rw e refl
+passing_at rules kind.Limit t rest e h = rw (e, over rules rest) refl
+passing_at rules kind.InputEnd t rest e h = rw (e, over rules rest) refl
 
 -- after a fault, the batches are those after the next `end`
 pub passing_is : (rules : Rules) (ts : List Token) → batches_from rules Passing ts ≡ batches rules (after_end ts)
@@ -61,18 +68,12 @@ no_limit rules full kind.TooLong r e l = let x : Pass LineLong ≡ Pass InputLim
 no_limit rules full kind.Limit r e l = cc
 no_limit rules full kind.InputEnd r e l = cc
 
-item_stops : (allowed inside full : Bool) (i : Item) (r : Reason) → (if allowed then (if inside then (if full then Pass TooMany else Add i) else Pass BadVertex) else Pass BadLine) ≡ Stop r → ⊥
-item_stops false inside full i r e = cc
-item_stops true false full i r e = cc
-item_stops true true true i r e = cc
-item_stops true true false i r e = cc
-
 -- no batch follows one that the end of the input or its limit ends
 stops : (rules : Rules) (full : Bool) (k : Kind) (t : Token) (r : Reason) → t.kind ≡ k → turn_of rules full k ≡ Stop r
     → behind_batch (Refused t.number r) (batches rules (t ∷ [])) ≡ Refused t.number r ∷ []
 unfolding batches_from
 stops rules full kind.BatchStart t r e s = absurd cc
-stops rules full (kind.Item i) t r e s = absurd (item_stops (is_allowed rules.profile i) (is_inside rules.n i) full i r s)
+stops rules full (kind.Item i) t r e s = absurd (item_goes (is_allowed rules.profile i) (is_inside rules.n i) full i r s)
 stops rules full kind.BatchEnd t r e s = absurd cc
 stops rules full kind.Other t r e s = absurd cc
 stops rules full kind.TooLong t r e s = absurd cc
@@ -84,57 +85,49 @@ abbrev pub Follows : Rules → List Next → Next × List Token → Type 0
 Follows rules all found = all ≡ behind_batch found.0 (batches rules found.1)
 
 within_at : (rules : Rules) (items : List Item) (t : Token) (turn : Turn) (rest : List Token) → turn_of rules (nat_le rules.item_limit (length items)) t.kind ≡ turn
-    → ((i : Item) → Follows rules (batches_from rules (Within (items ++ i ∷ [])) rest) (items_from rules (items ++ i ∷ []) rest))
-    → Follows rules (batches_from rules (Within items) (t ∷ rest)) (items_from rules items (t ∷ rest))
-unfolding batches_from items_from
-within_at rules items t (Add i) rest e h = rw e (h i)
+    → ((place : Place) → Follows rules (batches_from rules place rest) (batch_from rules place rest)) → Follows rules (batches_from rules (Within items) (t ∷ rest)) (batch_from rules (Within items) (t ∷ rest))
+unfolding batches_from batch_from
+within_at rules items t (Add i) rest e h = rw e (h (Within (items ++ i ∷ [])))
 within_at rules items t Close rest e h = rw e refl
 within_at rules items t (Pass r) rest e h = rw (e, passing_is rules rest) (sym (behind_other t.number r _ (no_limit rules (nat_le rules.item_limit (length items)) t.kind r e)))
-within_at rules items t (Stop r) rest e h = rw e (sym (stops rules (nat_le rules.item_limit (length items)) t.kind t r refl e))
+within_at rules items t (Stop r) rest e h = rw (e, over rules rest) (sym (stops rules (nat_le rules.item_limit (length items)) t.kind t r refl e))
 
-pub within_is : (rules : Rules) (items : List Item) (ts : List Token) → Follows rules (batches_from rules (Within items) ts) (items_from rules items ts)
-unfolding batches_from items_from
-within_is rules items [] = refl
-within_is rules items (t ∷ rest) = within_at rules items t _ rest refl (λ i. within_is rules (items ++ i ∷ []) rest)
+between_at : (rules : Rules) (k : Kind) (t : Token) (rest : List Token) → t.kind ≡ k → ((place : Place) → Follows rules (batches_from rules place rest) (batch_from rules place rest))
+    → Follows rules (batches_from rules Between (t ∷ rest)) (batch_from rules Between (t ∷ rest))
+unfolding batches_from batch_from
+between_at rules kind.BatchStart t rest e h = rw e (h (Within []))
+between_at rules (kind.Item i) t rest e h = rw (e, passing_is rules rest) refl
+between_at rules kind.BatchEnd t rest e h = rw e refl
+between_at rules kind.Other t rest e h = rw (e, passing_is rules rest) refl
+between_at rules kind.TooLong t rest e h = rw (e, passing_is rules rest) refl
+between_at rules kind.Limit t rest e h = rw (e, over rules rest) refl
+between_at rules kind.InputEnd t rest e h = rw (e, over rules rest) refl
 
-between_at : (rules : Rules) (k : Kind) (t : Token) (rest : List Token) → t.kind ≡ k → Follows rules (batches rules (t ∷ rest)) (batch_of rules (t ∷ rest))
-unfolding batches_from batch_of
-between_at rules kind.BatchStart t rest e = rw e (within_is rules [] rest)
-between_at rules (kind.Item i) t rest e = rw (e, passing_is rules rest) refl
-between_at rules kind.BatchEnd t rest e = rw e refl
-between_at rules kind.Other t rest e = rw (e, passing_is rules rest) refl
-between_at rules kind.TooLong t rest e = rw (e, passing_is rules rest) refl
-between_at rules kind.Limit t rest e = rw e refl
-between_at rules kind.InputEnd t rest e = rw e refl
+after_fault_at : (rules : Rules) (k : Kind) (t : Token) (rest : List Token) → t.kind ≡ k → ((place : Place) → Follows rules (batches_from rules place rest) (batch_from rules place rest))
+    → Follows rules (batches_from rules Passing (t ∷ rest)) (batch_from rules Passing (t ∷ rest))
+unfolding batches_from batch_from
+after_fault_at rules kind.BatchStart t rest e h = rw e (h Passing)
+after_fault_at rules (kind.Item i) t rest e h = rw e (h Passing)
+after_fault_at rules kind.BatchEnd t rest e h = rw e (h Between)
+after_fault_at rules kind.Other t rest e h = rw e (h Passing)
+after_fault_at rules kind.TooLong t rest e h = rw e (h Passing)
+after_fault_at rules kind.Limit t rest e h = rw (e, over rules rest) refl
+after_fault_at rules kind.InputEnd t rest e h = rw (e, over rules rest) refl
 
--- the batches of an input are the next one, and those of the rest
-pub batches_follow : (rules : Rules) (ts : List Token) → Follows rules (batches rules ts) (batch_of rules ts)
-unfolding batches_from batch_of
-batches_follow rules [] = refl
-batches_follow rules (t ∷ rest) = between_at rules t.kind t rest refl
+-- the batches from a place on are the first one, and those of the tokens that are left after it
+pub batches_go_on : (rules : Rules) (place : Place) (ts : List Token) → Follows rules (batches_from rules place ts) (batch_from rules place ts)
+unfolding batches_from batch_from
+batches_go_on rules place [] = refl
+batches_go_on rules Between (t ∷ rest) = between_at rules t.kind t rest refl (λ place. batches_go_on rules place rest)
+batches_go_on rules (Within items) (t ∷ rest) = within_at rules items t _ rest refl (λ place. batches_go_on rules place rest)
+batches_go_on rules Passing (t ∷ rest) = after_fault_at rules t.kind t rest refl (λ place. batches_go_on rules place rest)
+batches_go_on rules Over (t ∷ rest) = over rules rest
 
-pub told_follow : (rules : Rules) (next : Next) (old new : Option (List Token)) → option_map (batch_of rules) old ≡ option_map (with_next next) new
-    → option_map (batches rules) old ≡ option_map (behind_batch next) (option_map (batches rules) new)
-told_follow rules next None None e = refl
-told_follow rules next None (Some rest) e = absurd cc
-told_follow rules next (Some ts) None e = absurd cc
-told_follow rules next (Some ts) (Some rest) e =
-    let f : batch_of rules ts ≡ (next, rest) = same_Some _ _ e in
-    ap Some (batches_follow rules ts ∙ rw f refl)
-
-takes_refused : (m : ℕ) (r : Reason) (old new : ℕ) → new < old → TakesBatch (Refused m r) old new
-takes_refused m Header old new h = h
-takes_refused m LineLong old new h = h
-takes_refused m BadLine old new h = h
-takes_refused m BadVertex old new h = h
-takes_refused m TooMany old new h = h
-takes_refused m Truncated old new h = h
-takes_refused m InputLimit old new h = omega arith
-takes_refused m EdgeLimit old new h = h
-takes_refused m PhaseLimit old new h = h
-
--- a step that takes some budget takes it as a batch
-pub takes_batch : (next : Next) (old new : ℕ) → new < old → TakesBatch next old new
-takes_batch (Items b) old new h = h
-takes_batch (Refused m r) old new h = takes_refused m r old new h
-takes_batch End old new h = omega arith
+pub told_follow : (rules : Rules) (place : Place) (next : Next) (old new : Option (List Token)) → option_map (batch_from rules place) old ≡ option_map (with_next next) new
+    → option_map (batches_from rules place) old ≡ option_map (behind_batch next) (option_map (batches rules) new)
+told_follow rules place next None None e = refl
+told_follow rules place next None (Some rest) e = absurd cc
+told_follow rules place next (Some ts) None e = absurd cc
+told_follow rules place next (Some ts) (Some rest) e =
+    let f : batch_from rules place ts ≡ (next, rest) = same_Some _ _ e in
+    ap Some (batches_go_on rules place ts ∙ rw f refl)

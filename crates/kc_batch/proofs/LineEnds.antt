@@ -6,7 +6,7 @@ use Rattle.kc_levels.specs.declared.profile.Profile.{Profile}
 use Rattle.kc_text.specs.declared.line.Line.{Line}
 use Rattle.kc_text.specs.declared.line.Body.{Body}
 use Rattle.kc_text.specs.declared.line.Body.TheVariants.{Text, TooLong, Limit, End}
-use Rattle.kc_text.specs.Lines.{line_of, lines_from, lines, without_cr}
+use Rattle.kc_text.specs.Lines.{numbered_line, lines_from, lines, without_cr}
 use Rattle.kc_text.specs.Words.{words, words_from}
 use Rattle.kc_text.specs.Kept.{is_skipped, kept, text_of}
 use Rattle.kc_text.specs.Following.{IsLast}
@@ -38,8 +38,8 @@ from_ends limit n room [] [] = tt
 from_ends limit n room (x ∷ xs) [] = (no_last (nat_le (length (x ∷ xs)) limit) (without_cr (x ∷ xs)), tt)
 from_ends limit n zero piece (b ∷ bs) = tt
 from_ends limit n (suc room) piece (b ∷ bs) =
-    ends_either (b == 10) (line_of limit n piece ∷ lines_from limit (n + 1) room [] bs) (lines_from limit n room (piece ++ b ∷ []) bs)
-    (after_one (line_of limit n piece) (lines_from limit (n + 1) room [] bs) (no_last (nat_le (length piece) limit) (without_cr piece)) (from_ends limit (n + 1) room [] bs))
+    ends_either (b == 10) (numbered_line limit n piece ∷ lines_from limit (n + 1) room [] bs) (lines_from limit n room (piece ++ b ∷ []) bs)
+    (after_one (numbered_line limit n piece) (lines_from limit (n + 1) room [] bs) (no_last (nat_le (length piece) limit) (without_cr piece)) (from_ends limit (n + 1) room [] bs))
     (from_ends limit n room (piece ++ b ∷ []) bs)
 
 last_kept : (body : Body) → IsLast body → is_skipped body ≡ false
@@ -86,12 +86,12 @@ unfolding lines_from
 from_numbered limit n room [] [] h = one_more (record { number = n; body = End }) [] h none
 from_numbered limit n room (x ∷ xs) [] h =
     let k : 1 ≤ n + 1 = omega (arith, h) in
-    one_more (line_of limit n (x ∷ xs)) (record { number = n + 1; body = End } ∷ []) h (one_more (record { number = n + 1; body = End }) [] k none)
+    one_more (numbered_line limit n (x ∷ xs)) (record { number = n + 1; body = End } ∷ []) h (one_more (record { number = n + 1; body = End }) [] k none)
 from_numbered limit n zero piece (b ∷ bs) h = one_more (record { number = n; body = Limit }) [] h none
 from_numbered limit n (suc room) piece (b ∷ bs) h =
     let k : 1 ≤ n + 1 = omega (arith, h) in
-    numbered_either (b == 10) (line_of limit n piece ∷ lines_from limit (n + 1) room [] bs) (lines_from limit n room (piece ++ b ∷ []) bs)
-    (one_more (line_of limit n piece) (lines_from limit (n + 1) room [] bs) h (from_numbered limit (n + 1) room [] bs k))
+    numbered_either (b == 10) (numbered_line limit n piece ∷ lines_from limit (n + 1) room [] bs) (lines_from limit n room (piece ++ b ∷ []) bs)
+    (one_more (numbered_line limit n piece) (lines_from limit (n + 1) room [] bs) h (from_numbered limit (n + 1) room [] bs k))
     (from_numbered limit n room (piece ++ b ∷ []) bs h)
 
 kept_numbered : (ls : List Line) → Numbered ls → Numbered (kept ls)

@@ -5,10 +5,9 @@ use Rattle.kc_graph.specs.declared.items.Item.{Item}
 use Rattle.kc_text.specs.Reading.{Reading, budget}
 use Rattle.kc_batch.specs.declared.rules.Rules.{Rules}
 use Rattle.kc_batch.specs.declared.ahead.Ahead.{Ahead}
-use Rattle.kc_batch.specs.declared.token.Token.{Token}
 use Rattle.kc_batch.specs.declared.batch.Next.{Next}
 use Rattle.kc_batch.specs.Tokens.{tokens_left}
-use Rattle.kc_batch.specs.Batches.{Place, Between, Within, batches_from, items_from, batch_of, with_next, batches_left, behind_batch}
+use Rattle.kc_batch.specs.Batches.{Place, Between, Within, batches_from, batch_from, with_next, batches_left, behind_batch}
 
 -- the place of the next line, if a batch has begun or not, and has these items so far
 abbrev pub place_of : Bool → List Item → Place
@@ -23,16 +22,11 @@ batches_at rules place r left = option_map (batches_from rules place) (tokens_le
 abbrev pub batches_ahead : Ahead → Reading → Option (List ℕ) → Option (List Next)
 batches_ahead a r left = batches_at a.rules (place_of a.begun a.items) r left
 
--- the next batch, if one has begun or not, and has these items so far, and the lines after it
-abbrev pub batch_on : Rules → Bool → List Item → List Token → Next × List Token
-batch_on rules true items ts = items_from rules items ts
-batch_on rules false items ts = batch_of rules ts
-
 -- the batch that was read ahead goes on in the lines that a reader had still to give, and is `next`
 --
 -- If none was read ahead, `next` is the first of those lines. The lines after it are those still to give.
 abbrev pub ReadsAhead : Ahead → Reading → Option (List ℕ) → Reading → Option (List ℕ) → Next → Type 0
-ReadsAhead a old left new rest next = option_map (batch_on a.rules a.begun a.items) (tokens_left old left) ≡ option_map (with_next next) (tokens_left new rest)
+ReadsAhead a old left new rest next = option_map (batch_from a.rules (place_of a.begun a.items)) (tokens_left old left) ≡ option_map (with_next next) (tokens_left new rest)
 
 -- the batches, with that read ahead, are `next` and those still to give
 abbrev pub FollowsAhead : Ahead → Reading → Option (List ℕ) → Reading → Option (List ℕ) → Next → Type 0

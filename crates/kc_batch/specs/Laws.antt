@@ -96,9 +96,11 @@ pub record ReadsIsolations : Type 0 where
 
 -- the lines that are passed over after a fault: all up to the next `end`, and nothing in them is another fault
 pub record PassesOver : Type 0 where
+  -- the example at the head of `Batches`
+  pub example : among_three (codes "batch\n0 1\n0 9\n1 2\nend\nbatch\n+ 1 2\nend\n") ≡ plain 3 (Refused 5 BadVertex ∷ whole (Insert 1 2 ∷ []) 10 ∷ [])
   pub first_fault : among_three (codes "batch\n0 3\n0 1 2 3\nbatch\nend\nbatch\nend\n") ≡ plain 3 (Refused 4 BadVertex ∷ whole [] 9 ∷ [])
   pub wrong_line : among_three (codes "0 1\nbatch\n0 1\nend\nend\nbatch\nend") ≡ plain 3 (Refused 3 BadLine ∷ Refused 7 BadLine ∷ whole [] 9 ∷ [])
   pub input_ends : among_three (codes "0 1\n0 2\n") ≡ plain 3 (Refused 3 BadLine ∷ [])
   pub limit_between : input_of 65536 33 9 (codes "kcore 1\nvertices 3\nbatch\nend\nbatch\n") ≡ plain 3 (whole [] 4 ∷ Refused 5 InputLimit ∷ [])
   pub limit_within : input_of 65536 26 9 (codes "kcore 1\nvertices 3\nbatch\n0 1\nend\n") ≡ plain 3 (Refused 4 InputLimit ∷ [])
-  pub limit_behind_fault : input_of 65536 31 9 (codes "kcore 1\nvertices 3\nbatch\n0 1 2\n0 1\nend\n") ≡ plain 3 (Refused 4 BadLine ∷ Refused 5 InputLimit ∷ [])
+  pub limit_after_fault : input_of 65536 31 9 (codes "kcore 1\nvertices 3\nbatch\n0 1 2\n0 1\nend\n") ≡ plain 3 (Refused 4 BadLine ∷ Refused 5 InputLimit ∷ [])

@@ -15,6 +15,7 @@ pub struct Ahead {
     pub begun: bool,
     /// The items that were read after it.
     pub items: Items,
+    ghost none: { begun ≡ false → items ≡ [] },
     ghost few: { length items ≤ rules.item_limit },
     ghost inside: { All (λ item. is_inside rules.n item ≡ true) items },
     ghost allowed: { All (λ item. is_allowed rules.profile item ≡ true) items },

@@ -86,6 +86,5 @@ pub fn next_ask(alloc: Global, text: &[u8], n: u32, count: usize) -> Result<Opti
     if count >= MAX_ASKS {
         return Ok(None);
     }
-    let found = read_ask(alloc, text, n)?;
-    Ok(found)
+    read_ask(alloc, text, n)
 }

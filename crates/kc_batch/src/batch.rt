@@ -160,48 +160,12 @@ fn find_batch<S: Source, K: Sink>(
     }
 }
 
-/// Reads the next batch as [`next_batch`] does, and flushes the sink before each read of the source. A read may wait
-/// for bytes, so the text written before is passed on first.
+/// Reads the next batch as [`next_batch`] does, or the rest of one that was read ahead. Flushes the sink before each
+/// read of the source. A read may wait for bytes, so the text written before is passed on first.
 ///
 /// `WriteFault` comes only if a flush failed, and then too the reader isn't used again. As long as each next line of
 /// the batch lies whole in the reader's memory, nothing is read and nothing is flushed.
 pub fn await_batch<S: Source, K: Sink>(
-    alloc: Global,
-    reader: &mut LineReader,
-    src: &mut S,
-    sink: &mut K,
-    n: u32,
-    profile: Profile,
-    item_limit: u32,
-) -> Result<Next, AwaitFault>
-    ensures batch { IfOk result (ReadsBatch (record { n = n; profile = profile; item_limit = item_limit }) reader.old (S.left src.old) reader.new (S.left src.new)) }
-    ensures batches { IfOk result (ReadsFirst (record { n = n; profile = profile; item_limit = item_limit }) reader.old (S.left src.old) reader.new (S.left src.new)) }
-
-    // The range clause holds whether or not the source tells its bytes.
-    ensures sound { IfOk result (IsNext (record { n = n; profile = profile; item_limit = item_limit })) }
-
-    // After `End` the next call returns `End` again.
-    ensures again { IfOk result (λ next. IsEnd next → tokens_left reader.new (S.left src.new) ≡ tokens_left reader.old (S.left src.old)) }
-
-    // A caller's loop over the batches ends, since each batch takes some of the budget.
-    ensures takes { IfOk result (λ next. TakesBatch next (budget reader.old) (budget reader.new)) }
-
-    // The sink takes nothing.
-    ensures taken { K.taken sink.new ≡ K.taken sink.old }
-    ensures cause { AwaitCause (S.faults src.old) (S.faults src.new) (K.faults sink.old) (K.faults sink.new) result }
-{
-    let rules = Rules {
-        n,
-        profile,
-        item_limit,
-    };
-    let next = find_batch(alloc, reader, src, sink, rules)?;
-    Ok(next)
-}
-
-/// Reads the rest of a batch that was read ahead, or the next batch if none has begun. Flushes the sink before each
-/// read of the source, and fails, as [`await_batch`] does.
-pub fn await_rest<S: Source, K: Sink>(
     alloc: Global,
     reader: &mut LineReader,
     src: &mut S,
@@ -265,8 +229,13 @@ pub fn next_batch<S: Source>(
     ensures takes { IfOk result (λ next. TakesBatch next (budget reader.old) (budget reader.new)) }
     ensures cause { BatchCause (S.faults src.old) (S.faults src.new) result }
 {
+    let rules = Rules {
+        n,
+        profile,
+        item_limit,
+    };
     let mut sink = NullSink::new();
-    match await_batch(alloc, reader, src, &mut sink, n, profile, item_limit) {
+    match find_batch(alloc, reader, src, &mut sink, rules) {
         Ok(next) => Ok(next),
         Err(AwaitFault::ReadFault) => Err(BatchFault::ReadFault),
         Err(AwaitFault::WriteFault) => unreachable!(),

@@ -2,7 +2,7 @@
 //!
 //! [`Header::read`] reads the header, and each call of [`next_batch`] the next batch. [`await_batch`] reads it too, and
 //! flushes a sink before it waits. [`read_ahead`] reads as much of it as lies in the reader's memory, and
-//! [`await_rest`] the rest. Contracts define the results over the whole list of lines of the input: read `Headers` and
+//! [`await_batch`] the rest. Contracts define the results over the whole list of lines of the input: read `Headers` and
 //! then `Batches` of `specs/`.
 #![tactic(auto)]
 
@@ -22,7 +22,7 @@ mod turn;
 pub use ahead::Ahead;
 pub use ask::{Ask, Asks, Vertices};
 pub use await_fault::AwaitFault;
-pub use batch::{Batch, BatchFault, Next, await_batch, await_rest, next_batch};
+pub use batch::{Batch, BatchFault, Next, await_batch, next_batch};
 pub use header::{Header, HeaderFault, vertices_in};
 pub use items::Items;
 pub use reading_ahead::read_ahead;

@@ -66,7 +66,7 @@ fn take_items(alloc: Global, reader: &mut LineReader, rules: Rules) -> Result<Ah
 }
 
 /// Reads the next batch ahead, as far as its lines lie whole in the reader's own memory. These are its `batch` line and
-/// lines of two numbers that add items. `await_rest` reads the rest. Nothing is read from a source.
+/// lines of two numbers that add items. `await_batch` reads the rest. Nothing is read from a source.
 ///
 /// `AllocError` comes if there was no memory for the items. Then the reader isn't used again, since lines of the batch
 /// are gone. Cost: time for the bytes of the lines that are read, and memory for the items.

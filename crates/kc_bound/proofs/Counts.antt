@@ -2,6 +2,7 @@
 use Rattle.std.proofs.Common.{ℕ, suc, zero, ◌+◌, ◌≤◌, ◌<◌, ◌≡◌, ◌≢◌, ◌⊎◌, inl, inr, Bool, true, false, cond, List, [], ◌∷◌, refl, ap, sym, arith, subst}
 use Rattle.std.specs.Prelude.{count_by}
 use Rattle.std.proofs.lemmas.Bool.{cases_eq, eq-eqb, ne_eqb}
+use Rattle.std.proofs.lemmas.Bool.Decides.{nat_tests}
 use Rattle.kc_graph.specs.Numbers.{count_below}
 use Rattle.kc_graph.specs.Shape.{Pair, EdgesFrom, neighbours_of}
 use Rattle.kc_graph.proofs.lemmas.Counts.{count_by-cons, count_below_agree}
@@ -9,20 +10,11 @@ use Rattle.kc_graph.proofs.lemmas.Counts.{count_by-cons, count_below_agree}
 -- what passes q passes p or a
 pub count_by-cover : (p a q : ℕ → Bool) (xs : List ℕ) → ((w : ℕ) → q w ≡ true → (p w ≡ true) ⊎ (a w ≡ true)) → count_by q xs ≤ count_by p xs + count_by a xs
 count_by-cover p a q [] more = omega arith
-count_by-cover p a q (x ∷ xs) more =
-    let later : count_by q xs ≤ count_by p xs + count_by a xs = count_by-cover p a q xs more in
-    let one : cond (q x) 1 0 ≤ cond (p x) 1 0 + cond (a x) 1 0 = step (q x) (p x) (a x) (more x) in
-    omega (arith, count_by-cons p x xs, count_by-cons q x xs, count_by-cons a x xs)
-  where
-    step : (t b c : Bool) → (t ≡ true → (b ≡ true) ⊎ (c ≡ true)) → cond t 1 0 ≤ cond b 1 0 + cond c 1 0
-    step t b c h = grind arith
+count_by-cover p a q (x ∷ xs) more = grind (arith, nat_tests, count_by-cover p a q xs more, count_by-cons)
 
 pub count_below-none : (n : ℕ) (p : ℕ → Bool) → ((w : ℕ) → w < n → p w ≡ false) → count_below n p ≡ 0
 count_below-none zero p none = refl
-count_below-none (suc n) p none =
-    let later : count_below n p ≡ 0 = count_below-none n p (λ w h. none w (omega arith)) in
-    let here : p n ≡ false = none n (omega arith) in
-    rw here (omega arith)
+count_below-none (suc n) p none = grind (arith, nat_tests, count_below-none n p (λ w h. none w (omega arith)))
 
 pub count_below-pos : (n : ℕ) (p : ℕ → Bool) (v : ℕ) → v < n → p v ≡ true → 1 ≤ count_below n p
 count_below-pos zero p v h e = absurd (omega arith)
@@ -54,11 +46,7 @@ crossing p q (e ∷ es) = both (p e.0) (q e.1) + both (p e.1) (q e.0) + crossing
 
 pub crossing-none : (n a b : ℕ) (p q : ℕ → Bool) (es : List Pair) → EdgesFrom n a b es → ((w : ℕ) → w < n → p w ≡ false) → crossing p q es ≡ 0
 crossing-none n a b p q [] up none = refl
-crossing-none n a b p q (e ∷ es) up none =
-    let later : crossing p q es ≡ 0 = crossing-none n e.0 (suc e.1) p q es up.3 none in
-    let one : p e.0 ≡ false = none e.0 (omega (arith, up.1, up.2)) in
-    let two : p e.1 ≡ false = none e.1 up.2 in
-    rw (one, two) (omega arith)
+crossing-none n a b p q (e ∷ es) up none = grind (arith, nat_tests, crossing-none n e.0 (suc e.1) p q es up.3 none, up.3, up.1, up.2)
 
 -- what the count of such edges is after both sets changed at v, which was not in the first and is not in the second then
 pub crossing-moved : (n a b v : ℕ) (p p' q q' : ℕ → Bool) (es : List Pair) → EdgesFrom n a b es → ((w : ℕ) → w ≢ v → p' w ≡ p w) → ((w : ℕ) → w ≢ v → q' w ≡ q w) → p v ≡ false → q' v ≡ false → crossing p' q' es + cond (q v) (count_by p (neighbours_of v es)) 0 ≡ crossing p q es + cond (p' v) (count_by q (neighbours_of v es)) 0

@@ -2,6 +2,7 @@
 -- small for them.
 use Rattle.std.proofs.Common.{ℕ, suc, zero, ◌+◌, ◌-◌, ◌*◌, ◌≤◌, ◌<◌, ◌≡◌, inl, inr, Bool, true, List, get_or, refl, arith, subst}
 use Rattle.std.proofs.lemmas.Bool.{cases_Bool, le-leb}
+use Rattle.std.proofs.lemmas.Bool.Decides.{nat_tests}
 use Rattle.kc_graph.specs.Shape.{GraphShape, IsGraph}
 use Rattle.kc_levels.specs.LevelList.{at_least}
 use Rattle.kc_graph.specs.Numbers.{count_below}
@@ -50,11 +51,7 @@ held_core g x floor grow base h m t v graph rises meets enough step one above in
     size_at k = count_below g.vertices (gone r.set x k)
 
     needs : (d : ℕ) → Needs g x (base + d) (t + m)
-    needs d u h above =
-        let own : floor (get_or x u 0 - 1) ≤ at_least g x u (get_or x u 0 - 1) = meets u h (omega arith) in
-        let up : floor base ≤ floor (get_or x u 0 - 1) = rises base (get_or x u 0 - 1) (omega arith) in
-        let more : at_least g x u (get_or x u 0 - 1) ≤ at_least g x u (base + d) = at_least-down g x u (base + d) (get_or x u 0 - 1) (omega arith) in
-        omega arith
+    needs d u h above = grind (arith, nat_tests, at_least-down)
 
     links : (d : ℕ) → d < h → m * size_at (suc (base + d)) ≤ t * size_at (base + d)
     links d lt = let said = r.thinned.spent x (base + d) m (needs d) in omega arith

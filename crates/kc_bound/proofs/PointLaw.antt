@@ -60,12 +60,12 @@ points_as : (p : Profile) (phase : ℕ) (add : Bool) (g h : GraphShape) (x y : L
 points_as p phase true g h x y es plan graph both is moved phased entries after k =
     let same = vertices-with_edges g es in
     let w = points_lie_between.insertion phase es x y (with_edges g es) g plan k phased entries graph (sym same) refl moved.raisable.from in
-    both_are_near p _ _ w.middle (between_meets_both p _ _ _ _ _ _ w both (rw is at after))
+    both_are_near p _ _ w.graphs.middle (between_meets_both p _ _ _ _ _ _ w both (rw is at after))
 points_as p phase false g h x y es plan graph both is moved phased entries after k =
     let same = vertices-without_edges g es in
     let under : IsBelow g.vertices y x = rw same at moved.lowerable.under in
     let w = points_lie_between.deletion phase es x y g plan k phased entries under in
-    both_are_near p _ _ w.middle (between_meets_both p _ _ _ _ _ _ w (rw is at after) both)
+    both_are_near p _ _ w.graphs.middle (between_meets_both p _ _ _ _ _ _ w (rw is at after) both)
 
 later : (p : Profile) (g h : GraphShape) (x y : List ℕ) (plans : List PhasePlan) (k : ℕ) → IsGraph g → MeetsBoth p g x → LeadOn p g x plans h y → IsNear p (graph_after g (take k (entries_in plans))) (levels_after x (take k (entries_in plans)))
 later p g h x y [] k graph both a = near_none p g x (both_are_near p g x graph both) k

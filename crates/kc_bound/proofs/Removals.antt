@@ -1,8 +1,9 @@
 -- What is left of a graph where vertices with few neighbours left are taken away, one after another, and how few of the
 -- higher levels go with it.
-use Rattle.std.proofs.Common.{ℕ, suc, zero, ◌+◌, ◌*◌, ◌≤◌, ◌<◌, ◌≡◌, ◌≢◌, ◌⊎◌, inl, inr, Bool, true, false, not, ◌&&◌, cond, eqb, leb, ltb, List, get_or, refl, ap, sym, ◌∙◌, arith, subst}
+use Rattle.std.proofs.Common.{ℕ, suc, zero, ◌+◌, ◌*◌, ◌≤◌, ◌<◌, ◌≡◌, ◌≢◌, ◌⊎◌, inl, inr, Bool, true, false, not, ◌&&◌, cond, eqb, leb, ltb, List, get_or, refl, ap, arith, subst}
 use Rattle.std.specs.Prelude.{count_by}
 use Rattle.std.proofs.lemmas.Bool.{cases_lt, cases_eq, cases_Bool, both_ways, and_parts, le-leb, lt-leb, ltb-true, lt-ltb, eq-eqb, ne_eqb}
+use Rattle.std.proofs.lemmas.Bool.Decides.{nat_tests}
 use Rattle.kc_graph.specs.Shape.{GraphShape, IsGraph, neighbours_of}
 use Rattle.kc_levels.specs.LevelList.{at_least}
 use Rattle.kc_graph.specs.Numbers.{count_below}
@@ -41,14 +42,8 @@ pub thinned_first : (g : GraphShape) (t : ℕ) → IsGraph g → IsThinned g t (
 thinned_first g t graph = record {
   vertices = λ u e. ltb-true u g.vertices e;
   keeps = λ s core u e. lt-ltb u g.vertices (core.vertices u e);
-  spent = λ x k m needs.
-      let few : count_below g.vertices (gone (λ u. ltb u g.vertices) x (suc k)) ≡ 0 = count_below-none g.vertices (gone (λ u. ltb u g.vertices) x (suc k)) (λ w h. none x (suc k) w h) in
-      let no_edges : crossing (gone (λ u. ltb u g.vertices) x k) (left (λ u. ltb u g.vertices) x (suc k)) g.edges ≡ 0 = crossing-none g.vertices 0 0 (gone (λ u. ltb u g.vertices) x k) (left (λ u. ltb u g.vertices) x (suc k)) g.edges graph (λ w h. none x k w h) in
-      rw (few, no_edges) (omega arith);
+  spent = λ x k m needs. grind (arith, nat_tests, count_below-none, crossing, crossing-none);
 }
-  where
-    none : (x : List ℕ) (k w : ℕ) → w < g.vertices → gone (λ u. ltb u g.vertices) x k w ≡ false
-    none x k w h = rw (lt-ltb w g.vertices h) refl
 
 -- the three kinds of vertex that may be taken away
 pub high_step : (m t r s y y' c d r' s' : ℕ) → m * r + y ≤ t * s → y' + c ≡ y + d → m ≤ c → d ≤ t → r' ≡ r + 1 → s' ≡ s + 1 → m * r' + y' ≤ t * s'
@@ -63,17 +58,8 @@ low_step m t r s y y' r' s' h e er es = rw (er, es) (omega arith)
 pub thinned_more : (g : GraphShape) (t : ℕ) (a : ℕ → Bool) (v : ℕ) → IsGraph g → IsThinned g t a → v < g.vertices → a v ≡ true → count_by a (neighbours_of v g.edges) ≤ t → IsThinned g t (minus a v)
 unfolding degree_within at_least
 thinned_more g t a v graph thin h holds few = record {
-  vertices = λ u e. elim (cases_eq u v) [
-    | inl same ↦ omega (arith, same)
-    | inr ne ↦ thin.vertices u (sym (minus-other a v u ne) ∙ e)
-  ];
-  keeps = λ s core u e. elim (cases_eq u v) [
-    | inl same ↦
-        let enough : suc t ≤ count_by s (neighbours_of v g.edges) = core.enough v (subst (λ (w : ℕ). s w ≡ true) same e) in
-        let wider = count_by-mono s a (neighbours_of v g.edges) (λ w f. thin.keeps s core w f) in
-        absurd (omega arith)
-    | inr ne ↦ minus-other a v u ne ∙ thin.keeps s core u e
-  ];
+  vertices = λ u e. grind (arith, nat_tests, minus-other, thin.vertices);
+  keeps = λ s core u e. grind (arith, nat_tests, count_by-mono, minus-other, core.enough, thin.keeps);
   spent = λ x k m needs. step x k m needs;
 }
   where
@@ -111,10 +97,7 @@ thinned_more g t a v graph thin h holds few = record {
         omega arith
 
     gone_or_left : (x : List ℕ) (k w : ℕ) → leb k (get_or x w 0) ≡ true → (gone a x k w ≡ true) ⊎ (a w ≡ true)
-    gone_or_left x k w e = elim (cases_Bool (a w)) [
-      | inl in_set ↦ inr in_set
-      | inr out ↦ inl (rw (out, e) refl)
-    ]
+    gone_or_left x k w e = grind (arith, nat_tests)
 
     step : (x : List ℕ) (k m : ℕ) → Needs g x k (t + m) → m * count_below g.vertices (gone (minus a v) x (suc k)) + crossing (gone (minus a v) x k) (left (minus a v) x (suc k)) g.edges ≤ t * count_below g.vertices (gone (minus a v) x k)
     step x k m needs = elim (cases_lt k (get_or x v 0)) [

@@ -1,9 +1,8 @@
 -- The edges of a graph, row by row.
-use Rattle.std.proofs.Common.{ℕ, suc, ◌+◌, ◌≤◌, ◌<◌, ◌≡◌, ◌==◌, inl, inr, true, false, cond, List, [], ◌∷◌, ◌++◌, map, refl, sym, ap, ◌∙◌, arith}
-use Rattle.std.specs.Prelude.{filter, nat_lt, nat_le}
-use Rattle.std.proofs.lemmas.Bool.{cases_lt, cases_eq}
+use Rattle.std.proofs.Common.{ℕ, suc, ◌+◌, ◌≤◌, ◌<◌, ◌≡◌, ◌==◌, true, false, List, [], ◌∷◌, ◌++◌, map, refl, sym, ap, ◌∙◌, arith}
+use Rattle.std.specs.Prelude.{filter, nat_le}
 use Rattle.std.proofs.lemmas.Bool.Decides.{nat_tests}
-use Rattle.kc_graph.specs.Shape.{Pair, EdgesFrom, with_other, neighbours_of}
+use Rattle.kc_graph.specs.Shape.{Pair, EdgesFrom, neighbours_of}
 use Rattle.kc_text.specs.Printing.{printed}
 use Rattle.kc_cert.specs.Texts.{edge_line}
 use Rattle.kc_cert.specs.private.Texts.{row_lines}
@@ -34,36 +33,7 @@ none_here n c d v (e ∷ es) up lt =
 -- the edges of v to greater vertices, and then those of the vertices after it
 pub edges_at : (n c d v : ℕ) (es : List Pair) → EdgesFrom n c d es → map edge_line (edges_from v es) ≡ row_lines v (neighbours_of v es) ++ map edge_line (edges_from (v + 1) es)
 edges_at n c d v [] up = refl
-edges_at n c d v (e ∷ es) up = elim (cases_eq e.0 v) [
-  | inl is ↦
-      let here : nat_le v e.0 ≡ true = grind (arith, nat_tests, is) in
-      let later : nat_le (v + 1) e.0 ≡ false = grind (arith, nat_tests, is) in
-      let first : (e.0 == v) ≡ true = grind (arith, nat_tests, is) in
-      let greater : nat_lt v e.1 ≡ true = grind (arith, nat_tests, is, up.1) in
-      let line : edge_line e ≡ edge_line (v, e.1) = ap (λ (a : ℕ). edge_line (a, e.1)) is in
-      rw (here, later, first, greater, line) (ap (λ (ls : List (List (List ℕ))). edge_line (v, e.1) ∷ ls) (edges_at n e.0 (suc e.1) v es up.3))
-  | inr ne ↦ elim (cases_lt e.0 v) [
-    | inl lt ↦
-        let here : nat_le v e.0 ≡ false = grind (arith, nat_tests, lt) in
-        let later : nat_le (v + 1) e.0 ≡ false = grind (arith, nat_tests, lt) in
-        rw (here, later) (ap (λ (ls : List (List (List ℕ))). ls) (edges_at n e.0 (suc e.1) v es up.3) ∙ ap (λ (ls : List (List (List ℕ))). ls ++ map edge_line (edges_from (v + 1) es)) (lesser v e (neighbours_of v es) lt))
-    | inr ge ↦
-        let lt : v < e.0 = grind (arith, ne, ge) in
-        let here : nat_le v e.0 ≡ true = grind (arith, nat_tests, lt) in
-        let later : nat_le (v + 1) e.0 ≡ true = grind (arith, nat_tests, lt) in
-        let first : (e.0 == v) ≡ false = grind (arith, nat_tests, lt) in
-        let second : (e.1 == v) ≡ false = grind (arith, nat_tests, lt, up.1) in
-        let none = none_here n e.0 (suc e.1) v es up.3 lt in
-        rw (here, later, first, second, none) (ap (λ (ls : List (List (List ℕ))). edge_line e ∷ ls) (rw none at (edges_at n e.0 (suc e.1) v es up.3)))
-  ]
-]
-  where
-    -- an edge of v to a lesser vertex gives no line
-    lesser : (u : ℕ) (f : Pair) (rest : List ℕ) → f.0 < u → row_lines u rest ≡ row_lines u (with_other u f rest)
-    lesser u f rest lt =
-        let first : (f.0 == u) ≡ false = grind (arith, nat_tests, lt) in
-        let no : nat_lt u f.0 ≡ false = grind (arith, nat_tests, lt) in
-        rw first (elim (f.1 == u) as (λ b. row_lines u rest ≡ row_lines u (cond b (f.0 ∷ rest) rest)) [ true ↦ rw no refl | false ↦ refl ])
+edges_at n c d v (e ∷ es) up = grind (arith, nat_tests, edges_at n e.0 (suc e.1) v es up.3, none_here, up.1, up.3)
 
 pub last_printed : (n v : ℕ) (es : List Pair) → n ≤ v → EdgesFrom n 0 0 es → printed (map edge_line (edges_from v es)) ≡ []
 last_printed n v es le up = rw (no_edges n 0 0 v es le up) printed_none

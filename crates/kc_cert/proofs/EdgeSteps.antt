@@ -55,9 +55,6 @@ pub record MayFollow (n a b : ℕ) (es : List Pair) : Type 0 where
 not_before_start : (e : Pair) → IsNotBefore 0 0 e
 not_before_start e = grind arith
 
-pub follow_none : (n : ℕ) → MayFollow n 0 0 []
-follow_none n = record { ascending = tt; more = λ e f. (f.place, f.order, f.below, tt) }
-
 two_more : (n c d : ℕ) (es : List Pair) (e f : Pair) → EdgesFrom n c d (es ++ e ∷ []) → Fits n e.0 (suc e.1) f → EdgesFrom n c d ((es ++ e ∷ []) ++ f ∷ [])
 two_more n c d [] e f up h = (up.0, up.1, up.2, (h.place, h.order, h.below, tt))
 two_more n c d (g ∷ gs) e f up h = (up.0, up.1, up.2, two_more n g.0 (suc g.1) gs e f up.3 h)
@@ -68,10 +65,7 @@ follow_more n a b es e m h = record { ascending = m.more e h; more = λ f k. two
 -- an edge after all others isn't among them
 absent_last : (n c d : ℕ) (es : List Pair) (e : Pair) (rest : List Pair) → EdgesFrom n c d (es ++ e ∷ rest) → has_edge e es ≡ false
 absent_last n c d [] e rest up = refl
-absent_last n c d (f ∷ fs) e rest up =
-    let after : IsNotBefore f.0 (suc f.1) e = edges_from_at n f.0 (suc f.1) fs e rest up.3 in
-    let later : has_edge e fs ≡ false = absent_last n f.0 (suc f.1) fs e rest up.3 in
-    grind (arith, nat_tests)
+absent_last n c d (f ∷ fs) e rest up = grind (arith, nat_tests, absent_last n f.0 (suc f.1) fs e rest up.3, edges_from_at, up.3)
 
 -- edges that ascend from a later place on do so from an earlier one
 from_earlier : (n a b c d : ℕ) (es : List Pair) → EdgesFrom n c d es → ((e : Pair) → IsNotBefore c d e → IsNotBefore a b e) → EdgesFrom n a b es
@@ -115,19 +109,12 @@ after_edge p g n count i e = AtBody (record { profile = p; graph = record { vert
 
 pub edge_step : (p : Profile) (g : GraphShape) (n count i a b : ℕ) (k : Kind) (x : Result Pair Reason) → g.vertices ≡ n → i < count → x ≡ edge_of n a b k
     → stage_after (edges_due p g n count i a b) k ≡ onward (after_edge p g n count i) x
-edge_step p g n count i a b k x size lt x_is =
-    let due : count - i ≡ suc (count - (i + 1)) = omega arith in
-    let here : edge_of g.vertices a b k ≡ x = rw size (sym x_is) in
-    rw due (ap (onward (after_edge p g n count i)) here)
+edge_step p g n count i a b k x size lt x_is = grind (arith, nat_tests)
 
 -- the stage where the next edge is due
 pub after_one : (p : Profile) (n count i x y : ℕ) (es fs : List Pair) (e : Pair) → fs ≡ es ++ e ∷ [] → e ≡ (x, y)
     → edges_due p (record { vertices = n; edges = fs }) n count (i + 1) x (y + 1) ≡ after_edge p (record { vertices = n; edges = es }) n count i e
-after_one p n count i x y es fs e fs_is e_is =
-    let one : y + 1 ≡ suc y = omega arith in
-    let first : e.0 ≡ x = ap (λ (q : Pair). q.0) e_is in
-    let second : e.1 ≡ y = ap (λ (q : Pair). q.1) e_is in
-    rw (fs_is, one, ← first, ← second) refl
+after_one p n count i x y es fs e fs_is e_is = grind (arith, nat_tests)
 
 pub follow_one : (n a b x y : ℕ) (es fs : List Pair) (e : Pair) → MayFollow n a b es → Fits n a b e → fs ≡ es ++ e ∷ [] → e ≡ (x, y) → MayFollow n x (y + 1) fs
 follow_one n a b x y es fs e m f fs_is e_is =

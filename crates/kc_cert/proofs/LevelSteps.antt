@@ -1,7 +1,6 @@
 -- Levels that are read one after another.
-use Rattle.std.proofs.Common.{ℕ, suc, ◌+◌, ◌-◌, ◌≤◌, ◌<◌, ◌≡◌, ◌==◌, inl, inr, Bool, true, false, List, [], ◌∷◌, ◌++◌, length, take, set, get_or, refl, ap, sym, ◌∙◌, arith}
+use Rattle.std.proofs.Common.{ℕ, ◌+◌, ◌-◌, ◌≤◌, ◌<◌, ◌≡◌, ◌==◌, Bool, true, false, List, [], ◌∷◌, ◌++◌, length, take, set, get_or, refl, arith}
 use Rattle.std.specs.Prelude.{Result, Ok, Err, nat_lt, nat_le, ◌&&◌, if◌then◌else◌}
-use Rattle.std.proofs.lemmas.Bool.{cases_eq}
 use Rattle.std.proofs.lemmas.Bool.Decides.{nat_tests}
 use Rattle.std.proofs.lemmas.List.{length-take, get_or-set_same, get_or-set_other}
 use Rattle.kc_graph.specs.Shape.{GraphShape}
@@ -37,15 +36,8 @@ level_fits n top v kind.InputEnd l h = absurd cc
 -- the stage after the level of vertex v
 pub level_step : (p : Profile) (g : GraphShape) (xs : List ℕ) (a b v n top : ℕ) (k : Kind) (x : Result ℕ Reason) → n ≡ g.vertices → top ≡ top_level p g.vertices → length xs ≡ n → v < n → x ≡ level_of n top v k
     → stage_after (AtBody (record { profile = p; graph = g; levels = take v xs }) 0 a b (n - v)) k ≡ onward (λ l. AtBody (record { profile = p; graph = g; levels = take v xs ++ l ∷ [] }) 0 a b (n - (v + 1))) x
-level_step p g xs a b v n top k x size top_is long lt x_is =
-    let due : n - v ≡ suc (n - (v + 1)) = omega arith in
-    let next : length (take v xs) ≡ v = length-take v xs ∙ omega (arith, long) in
-    let here : level_of g.vertices (top_level p g.vertices) (length (take v xs)) k ≡ x = rw (next, ← top_is, ← size) (sym x_is) in
-    rw due (ap (onward (λ l. AtBody (record { profile = p; graph = g; levels = take v xs ++ l ∷ [] }) 0 a b (n - (v + 1)))) here)
+level_step p g xs a b v n top k x size top_is long lt x_is = grind (arith, nat_tests, length-take)
 
 -- one more level within the top
 pub capped_more : (xs : List ℕ) (v l top : ℕ) → ((w : ℕ) → w < v → get_or xs w 0 ≤ top) → v < length xs → l ≤ top → (w : ℕ) → w < v + 1 → get_or (set xs v l) w 0 ≤ top
-capped_more xs v l top h inside le w lt = elim (cases_eq w v) [
-  | inl e ↦ rw (e, get_or-set_same xs v l 0 inside) le
-  | inr ne ↦ rw (get_or-set_other xs v w l 0 ne) (h w (omega arith))
-]
+capped_more xs v l top h inside le w lt = grind (arith, nat_tests, get_or-set_same, get_or-set_other)

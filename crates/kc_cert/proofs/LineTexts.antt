@@ -1,5 +1,5 @@
 -- Lines as they are put together, and as their definitions have them.
-use Rattle.std.proofs.Common.{ℕ, suc, ◌+◌, ◌<◌, ◌≤◌, ◌≡◌, true, false, List, [], ◌∷◌, ◌++◌, length, drop, get_or, map, refl, sym, ap, ◌∙◌, arith, append_assoc, add-one, drop-cons}
+use Rattle.std.proofs.Common.{ℕ, suc, ◌+◌, ◌<◌, ◌≤◌, ◌≡◌, true, List, [], ◌∷◌, ◌++◌, length, drop, get_or, map, refl, sym, ap, ◌∙◌, arith, append_assoc, add-one, drop-cons}
 use Rattle.std.specs.Prelude.{decimal, codes, nat_lt}
 use Rattle.std.proofs.lemmas.List.{append-nil}
 use Rattle.std.proofs.lemmas.List.Concat.{flat_map-append}
@@ -36,12 +36,6 @@ unfolding printed
 row_rest v i row h lt =
     let greater : nat_lt v (get_or row i 0) ≡ true = grind (arith, nat_tests, lt) in
     rw (add-one, drop-cons row i 0 h, greater) (regrouped (codes "edge") (32 ∷ []) (decimal v) (decimal (get_or row i 0)) (10 ∷ []) (printed (row_lines v (drop (suc i) row))))
-
--- a lesser neighbour gives no line
-pub row_skips : (v i : ℕ) (row : List ℕ) → i < length row → get_or row i 0 ≤ v → row_lines v (drop i row) ≡ row_lines v (drop (i + 1) row)
-row_skips v i row h le =
-    let lesser : nat_lt v (get_or row i 0) ≡ false = grind (arith, nat_tests, le) in
-    rw (add-one, drop-cons row i 0 h, lesser) refl
 
 pub row_end : (v i : ℕ) (row : List ℕ) → length row ≤ i → printed (row_lines v (drop i row)) ≡ []
 unfolding printed

@@ -1,6 +1,6 @@
 -- Verdicts on a certificate exclude each other.
-use Rattle.std.proofs.Common.{ℕ, ◌<◌, ◌≡◌, inl, inr, refl, ap, subst, arith}
-use Rattle.std.proofs.lemmas.Bool.{cases_lt}
+use Rattle.std.proofs.Common.{ℕ, ◌<◌, ◌≡◌, refl, ap, subst, arith}
+use Rattle.std.proofs.lemmas.Bool.Decides.{nat_tests}
 use Rattle.kc_levels.specs.Laws.{NoneBreaksBoth}
 use Rattle.kc_cert.specs.declared.certificate.Certificate.{Certificate}
 use Rattle.kc_cert.specs.declared.verdict.Verdict.TheVariants.{Certified, Upper, Lower}
@@ -9,10 +9,7 @@ use Rattle.kc_cert.specs.Texts.{IsCertificate}
 use Rattle.kc_cert.specs.Verdicts.{HasUpper, HasLower, IsFirstBreach}
 
 same_number : (a b : ℕ) → (a < b → ⊥) → (b < a → ⊥) → a ≡ b
-same_number a b p q = elim (cases_lt a b) [
-  | inl lt ↦ absurd (p lt)
-  | inr ge ↦ elim (cases_lt b a) [ inl lt ↦ absurd (q lt) | inr le ↦ omega (arith, ge, le) ]
-]
+same_number a b p q = grind (arith, nat_tests)
 
 -- the least vertex that breaks an invariant is one, whichever it breaks
 same_vertex : (cert : Certificate) (a b : ℕ) → IsFirstBreach cert a (HasUpper cert) → IsFirstBreach cert b (HasLower cert) → a ≡ b

@@ -1,6 +1,6 @@
 -- A certificate is read back from its text.
-use Rattle.std.proofs.Common.{ℕ, suc, ◌+◌, ◌≤◌, ◌<◌, ◌≡◌, ◌==◌, ◌^◌, true, List, [], ◌∷◌, ◌++◌, length, get_or, map, refl, sym, ap, ◌∙◌, arith, append_assoc, length-append}
-use Rattle.std.specs.Prelude.{Ok, nat_le, nat_lt, ◌&&◌, decimal, codes}
+use Rattle.std.proofs.Common.{ℕ, suc, ◌+◌, ◌≤◌, ◌<◌, ◌≡◌, ◌^◌, true, List, [], ◌∷◌, ◌++◌, length, get_or, map, refl, sym, ap, ◌∙◌, arith, append_assoc, length-append}
+use Rattle.std.specs.Prelude.{Ok, nat_le, ◌&&◌, decimal, codes}
 use Rattle.std.specs.List.{list_all, join_with_byte}
 use Rattle.std.proofs.lemmas.Bool.{and_parts, and_from, le-leb}
 use Rattle.std.proofs.lemmas.Bool.Decides.{nat_tests}
@@ -20,7 +20,7 @@ use Rattle.kc_text.proofs.lemmas.Printing.{words_are_read_back, lines_are_read_b
 use Rattle.kc_cert.specs.declared.certificate.Certificate.{Certificate}
 use Rattle.kc_cert.specs.declared.token.Kind.{Kind}
 use Rattle.kc_cert.specs.declared.token.Kind.TheVariants as kind
-use Rattle.kc_cert.specs.Documents.{Stage, AtMagic, AtProfile, AtVertices, AtEdgeCount, AtBody, AtInputEnd, Accepted, is_next_edge, empty_certificate, stage_after, read_from, document_of}
+use Rattle.kc_cert.specs.Documents.{Stage, AtMagic, AtProfile, AtVertices, AtEdgeCount, AtBody, AtInputEnd, Accepted, empty_certificate, stage_after, read_from, document_of}
 use Rattle.kc_cert.specs.Laws.{CertificateIsReadBack, document_in}
 use Rattle.kc_cert.specs.Texts.{IsCertificate, head_lines, edge_line, level_lines, end_lines, certificate_lines, certificate_text}
 use Rattle.kc_cert.specs.Tokens.{kind_of_text, tokens}
@@ -55,10 +55,7 @@ at_end n = record { number = n; body = End } ∷ []
 -- a vertex has its level
 level_turn : (p : Profile) (g : GraphShape) (before : List ℕ) (a b due v l : ℕ) → v ≡ length before → v < g.vertices → l ≤ top_level p g.vertices
     → stage_after (AtBody (record { profile = p; graph = g; levels = before }) 0 a b (suc due)) (kind.Level v l) ≡ Ok (AtBody (record { profile = p; graph = g; levels = before ++ l ∷ [] }) 0 a b due)
-level_turn p g before a b due v l e lt le =
-    let inside : nat_lt v g.vertices ≡ true = grind (arith, nat_tests, lt) in
-    let next : ((v == length before) && nat_le l (top_level p g.vertices)) ≡ true = and_from _ _ (grind (arith, nat_tests, e)) (le-leb _ _ le) in
-    rw (inside, next) refl
+level_turn p g before a b due v l e lt le = grind (arith, nat_tests, and_from, le-leb)
 
 top_small : (p : Profile) (n : ℕ) → n ≤ MAX_VERTICES → top_level p n ≤ 16769
 top_small One n h = let t = top_is_low.one n h in omega (arith, t)
@@ -88,10 +85,7 @@ levels_back p g before (l ∷ ls) a b n v last small e s h =
 -- an edge is in its place
 edge_turn : (p : Profile) (n : ℕ) (before : List Pair) (wait a b due : ℕ) (e : Pair) → IsNotBefore a b e → e.0 < e.1 → e.1 < n
     → stage_after (AtBody (record { profile = p; graph = record { vertices = n; edges = before }; levels = [] }) (suc wait) a b due) (kind.Edge e.0 e.1) ≡ Ok (AtBody (record { profile = p; graph = record { vertices = n; edges = before ++ e ∷ [] }; levels = [] }) wait e.0 (suc e.1) due)
-edge_turn p n before wait a b due e place order below =
-    let inside : (nat_lt e.0 n && nat_lt e.1 n) ≡ true = grind (arith, nat_tests, order, below) in
-    let next : is_next_edge a b e.0 e.1 ≡ true = grind (arith, nat_tests, place, order) in
-    rw (inside, next) refl
+edge_turn p n before wait a b due e place order below = grind (arith, nat_tests)
 
 edges_back : (p : Profile) (n : ℕ) (before es : List Pair) (x : List ℕ) (a b k last : ℕ) → n ≤ MAX_VERTICES → EdgesFrom n a b es → length x ≡ n → ((w : ℕ) → w < n → get_or x w 0 ≤ top_level p n)
     → read_from (AtBody (record { profile = p; graph = record { vertices = n; edges = before }; levels = [] }) (length es) a b n) (tokens (lines_of_words k (map edge_line es ++ (level_lines 0 x ++ end_lines)) ++ at_end last))
@@ -133,23 +127,13 @@ edge_lines_print limit n a b (e ∷ es) big small up =
     (edge_lines_print limit n e.0 (suc e.1) es big small up.3)
 
 head_lines_print : (limit : ℕ) (cert : Certificate) → 32 ≤ limit → IsCertificate cert → list_all (is_line limit) (head_lines cert.profile cert.graph) ≡ true
-head_lines_print limit cert big h =
-    and_from _ _ (says_line limit _ kind.Magic big says_magic)
-    (and_from _ _ (says_line limit _ (kind.Profile cert.profile) big (says_profile cert.profile))
-    (and_from _ _ (says_line limit _ (kind.Vertices cert.graph.vertices) big (says_vertices cert.graph.vertices (omega (arith, h.small))))
-    (and_from _ _ (says_line limit _ (kind.EdgeCount (length cert.graph.edges)) big (says_count (length cert.graph.edges) (omega (arith, h.few)))) refl)))
+head_lines_print limit cert big h = grind (arith, nat_tests, and_from, says_line, says_magic, says_profile, says_vertices, says_count, h.small, h.few)
 
 both_print : (limit : ℕ) (xs ys : List (List (List ℕ))) → list_all (is_line limit) xs ≡ true → list_all (is_line limit) ys ≡ true → list_all (is_line limit) (xs ++ ys) ≡ true
 both_print limit xs ys h k = list_all-append (is_line limit) xs ys ∙ and_from _ _ h k
 
 pub certificate_prints : (limit : ℕ) (cert : Certificate) → 32 ≤ limit → IsCertificate cert → list_all (is_line limit) (certificate_lines cert) ≡ true
-certificate_prints limit cert big h =
-    let n = cert.graph.vertices in
-    let levels = level_lines_print limit 0 n (top_level cert.profile n) cert.levels big (omega (arith, h.sized)) h.small (top_small cert.profile n h.small) (λ w lt. h.capped w (omega (arith, lt, h.sized))) in
-    let last = and_from _ _ (says_line limit _ kind.Close big says_end) refl in
-    let tail = both_print limit (level_lines 0 cert.levels) end_lines levels last in
-    let body = both_print limit (map edge_line cert.graph.edges) (level_lines 0 cert.levels ++ end_lines) (edge_lines_print limit n 0 0 cert.graph.edges big h.small h.graph) tail in
-    both_print limit (head_lines cert.profile cert.graph) (map edge_line cert.graph.edges ++ (level_lines 0 cert.levels ++ end_lines)) (head_lines_print limit cert big h) body
+certificate_prints limit cert big h = grind (arith, nat_tests, level_lines_print, top_small, and_from, says_line, says_end, both_print, edge_lines_print, head_lines_print, h.sized, h.small, h.capped, h.graph)
 
 -- lines that may be printed are words
 are_words : (limit : ℕ) (ls : List (List (List ℕ))) → list_all (is_line limit) ls ≡ true → list_all (list_all is_word) ls ≡ true

@@ -11,7 +11,7 @@ use Rattle.kc_text.proofs.lemmas.Printing.{numbers_are_read_back}
 use Rattle.kc_cert.specs.declared.token.Kind.{Kind}
 use Rattle.kc_cert.specs.declared.token.Kind.TheVariants as kind
 use Rattle.kc_cert.specs.Texts.{profile_word}
-use Rattle.kc_cert.specs.Tokens.{one_number, two_numbers, profile_in, is_version, kind_of_words}
+use Rattle.kc_cert.specs.Tokens.{only_word, two_numbers, kind_of_words}
 
 -- words that say this as a line of at most 32 bytes
 pub record Says (ws : List (List ℕ)) (k : Kind) : Type 0 where
@@ -25,11 +25,11 @@ pub says_line : (limit : ℕ) (ws : List (List ℕ)) (k : Kind) → 32 ≤ limit
 says_line limit ws k h s = and_from _ _ s.words_are (le-leb _ _ (omega (arith, h, s.short)))
 
 pub says_magic : Says (codes "kcore-cert" ∷ codes "1" ∷ []) kind.Magic
-unfolding kind_of_words is_version
+unfolding kind_of_words only_word
 says_magic = record { words_are = refl; short = omega arith; said = refl; kind_is = refl }
 
 pub says_profile : (p : Profile) → Says (codes "profile" ∷ profile_word p ∷ []) (kind.Profile p)
-unfolding kind_of_words profile_in
+unfolding kind_of_words only_word
 says_profile One = record { words_are = refl; short = omega arith; said = refl; kind_is = refl }
 says_profile Two = record { words_are = refl; short = omega arith; said = refl; kind_is = refl }
 
@@ -38,7 +38,7 @@ unfolding kind_of_words
 says_end = record { words_are = refl; short = omega arith; said = refl; kind_is = refl }
 
 pub says_vertices : (n : ℕ) → n < 2 ^ 32 → Says (codes "vertices" ∷ decimal n ∷ []) (kind.Vertices n)
-unfolding kind_of_words one_number
+unfolding kind_of_words only_word
 says_vertices n h = record {
   words_are = rw (numbers_are_read_back.word n h) refl;
   short = omega (arith, numbers_are_read_back.short n h);
@@ -47,7 +47,7 @@ says_vertices n h = record {
 }
 
 pub says_count : (m : ℕ) → m < 2 ^ 32 → Says (codes "edges" ∷ decimal m ∷ []) (kind.EdgeCount m)
-unfolding kind_of_words one_number
+unfolding kind_of_words only_word
 says_count m h = record {
   words_are = rw (numbers_are_read_back.word m h) refl;
   short = omega (arith, numbers_are_read_back.short m h);
@@ -56,7 +56,7 @@ says_count m h = record {
 }
 
 pub says_edge : (a b : ℕ) → a < 2 ^ 32 → b < 2 ^ 32 → Says (codes "edge" ∷ decimal a ∷ decimal b ∷ []) (kind.Edge a b)
-unfolding kind_of_words one_number two_numbers
+unfolding kind_of_words only_word two_numbers
 says_edge a b h k = record {
   words_are = rw (numbers_are_read_back.word a h, numbers_are_read_back.word b k) refl;
   short = omega (arith, numbers_are_read_back.short a h, numbers_are_read_back.short b k, length-append (decimal a) (32 ∷ decimal b));
@@ -65,7 +65,7 @@ says_edge a b h k = record {
 }
 
 pub says_level : (v l : ℕ) → v < 2 ^ 32 → l < 2 ^ 32 → Says (codes "level" ∷ decimal v ∷ decimal l ∷ []) (kind.Level v l)
-unfolding kind_of_words one_number two_numbers
+unfolding kind_of_words only_word two_numbers
 says_level v l h k = record {
   words_are = rw (numbers_are_read_back.word v h, numbers_are_read_back.word l k) refl;
   short = omega (arith, numbers_are_read_back.short v h, numbers_are_read_back.short l k, length-append (decimal v) (32 ∷ decimal l));

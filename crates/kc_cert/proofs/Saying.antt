@@ -13,8 +13,8 @@ use Rattle.kc_text.specs.Words.{words, is_skip}
 use Rattle.kc_text.specs.Kept.{is_skipped, kept}
 use Rattle.kc_cert.specs.declared.token.Token.{Token}
 use Rattle.kc_cert.specs.declared.token.Kind.{Kind}
-use Rattle.kc_cert.specs.declared.token.Kind.TheVariants.{Magic, Close, Other}
-use Rattle.kc_cert.specs.Tokens.{one_number, two_numbers, profile_in, is_version, is_nothing, edge_kind, level_kind, vertices_kind, count_kind, profile_kind, kind_of_words, kind_of_text, kind_of, tokens}
+use Rattle.kc_cert.specs.declared.token.Kind.TheVariants as kind
+use Rattle.kc_cert.specs.Tokens.{one_number, two_numbers, profile_in, is_version, is_nothing, kind_by, kind_of_words, kind_of_text, kind_of, tokens}
 use Rattle.kc_cert.specs.private.Tokens.{behind_kind, onto_token}
 
 -- lines may follow one of this kind
@@ -25,37 +25,26 @@ if_goes_on : (b : Bool) (j k : Kind) → GoesOn j → GoesOn k → GoesOn (if b 
 if_goes_on true j k p q = p
 if_goes_on false j k p q = q
 
-edge_goes_on : (p : Option (ℕ × ℕ)) → GoesOn (edge_kind p)
-edge_goes_on None rest = refl
-edge_goes_on (Some p) rest = refl
-
-level_goes_on : (p : Option (ℕ × ℕ)) → GoesOn (level_kind p)
-level_goes_on None rest = refl
-level_goes_on (Some p) rest = refl
-
-vertices_goes_on : (n : Option ℕ) → GoesOn (vertices_kind n)
-vertices_goes_on None rest = refl
-vertices_goes_on (Some n) rest = refl
-
-count_goes_on : (n : Option ℕ) → GoesOn (count_kind n)
-count_goes_on None rest = refl
-count_goes_on (Some n) rest = refl
-
-profile_goes_on : (p : Option Profile) → GoesOn (profile_kind p)
-profile_goes_on None rest = refl
-profile_goes_on (Some p) rest = refl
+by_goes_on : {T : Type 0} (f : T → Kind) (o : Option T) → ((x : T) → GoesOn (f x)) → GoesOn (kind_by f o)
+by_goes_on f None h rest = refl
+by_goes_on f (Some x) h rest = h x rest
 
 words_go_on : (ws : List (List ℕ)) → GoesOn (kind_of_words ws)
 unfolding kind_of_words
 words_go_on [] = λ rest. refl
 words_go_on (name ∷ ws) =
-    if_goes_on (bytes_eq name (codes "edge")) (edge_kind (two_numbers ws)) _ (edge_goes_on (two_numbers ws))
-    (if_goes_on (bytes_eq name (codes "level")) (level_kind (two_numbers ws)) _ (level_goes_on (two_numbers ws))
-    (if_goes_on (bytes_eq name (codes "vertices")) (vertices_kind (one_number ws)) _ (vertices_goes_on (one_number ws))
-    (if_goes_on (bytes_eq name (codes "edges")) (count_kind (one_number ws)) _ (count_goes_on (one_number ws))
-    (if_goes_on (bytes_eq name (codes "profile")) (profile_kind (profile_in ws)) _ (profile_goes_on (profile_in ws))
-    (if_goes_on (bytes_eq name (codes "kcore-cert") && is_version ws) Magic _ (λ rest. refl)
-    (if_goes_on (bytes_eq name (codes "end") && is_nothing ws) Close Other (λ rest. refl) (λ rest. refl)))))))
+    let edge = by_goes_on (λ (p : ℕ × ℕ). kind.Edge p.0 p.1) (two_numbers ws) (λ p rest. refl) in
+    let level = by_goes_on (λ (p : ℕ × ℕ). kind.Level p.0 p.1) (two_numbers ws) (λ p rest. refl) in
+    let vertices = by_goes_on (λ n. kind.Vertices n) (one_number ws) (λ n rest. refl) in
+    let count = by_goes_on (λ m. kind.EdgeCount m) (one_number ws) (λ m rest. refl) in
+    let profile = by_goes_on (λ p. kind.Profile p) (profile_in ws) (λ p rest. refl) in
+    if_goes_on (bytes_eq name (codes "edge")) _ _ edge
+    (if_goes_on (bytes_eq name (codes "level")) _ _ level
+    (if_goes_on (bytes_eq name (codes "vertices")) _ _ vertices
+    (if_goes_on (bytes_eq name (codes "edges")) _ _ count
+    (if_goes_on (bytes_eq name (codes "profile")) _ _ profile
+    (if_goes_on (bytes_eq name (codes "kcore-cert") && is_version ws) kind.Magic _ (λ rest. refl)
+    (if_goes_on (bytes_eq name (codes "end") && is_nothing ws) kind.Close kind.Other (λ rest. refl) (λ rest. refl)))))))
 
 chosen : (skips : Bool) (j k : Kind) → (if skips then None else Some j) ≡ Some k → j ≡ k
 chosen true j k e = absurd cc

@@ -1,8 +1,7 @@
 -- Each certificate has a verdict.
-use Rattle.std.proofs.Common.{ℕ, zero, suc, ◌≤◌, ◌<◌, ◌≡◌, ◌⊎◌, inl, inr, get_or, refl, arith}
-use Rattle.std.proofs.lemmas.Bool.{cases_lt}
-use Rattle.kc_levels.specs.Thresholds.{low, high, group_of}
-use Rattle.kc_levels.specs.LevelList.{at_least, IsHeld}
+use Rattle.std.proofs.Common.{ℕ, zero, suc, ◌≤◌, ◌<◌, ◌⊎◌, inl, inr, get_or, refl, arith}
+use Rattle.std.proofs.lemmas.Bool.Decides.{nat_tests}
+use Rattle.kc_levels.specs.LevelList.{IsHeld}
 use Rattle.kc_cert.specs.declared.certificate.Certificate.{Certificate}
 use Rattle.kc_cert.specs.declared.verdict.Verdict.{Verdict}
 use Rattle.kc_cert.specs.declared.verdict.Verdict.TheVariants.{Certified, Upper, Lower}
@@ -10,17 +9,11 @@ use Rattle.kc_cert.specs.Laws.{HasVerdict, VerdictIsCertified}
 use Rattle.kc_cert.specs.Verdicts.{HasUpper, HasLower, IsVerdict}
 
 has_upper : (cert : Certificate) (v : ℕ) → HasUpper cert v ⊎ ¬ (HasUpper cert v)
-has_upper cert v = elim (cases_lt (high cert.profile (group_of cert.profile cert.graph.vertices (get_or cert.levels v 0))) (at_least cert.graph cert.levels v (get_or cert.levels v 0))) [
-  | inl more ↦ inr (λ meets. omega (arith, more, meets))
-  | inr few ↦ inl few
-]
+has_upper cert v = grind (arith, nat_tests)
 
 held : (cert : Certificate) (v l : ℕ) → IsHeld cert.profile cert.graph cert.levels v l ⊎ ¬ (IsHeld cert.profile cert.graph cert.levels v l)
 held cert v zero = inl tt
-held cert v (suc l) = elim (cases_lt (at_least cert.graph cert.levels v l) (low cert.profile (group_of cert.profile cert.graph.vertices l))) [
-  | inl few ↦ inr (λ meets. omega (arith, few, meets))
-  | inr enough ↦ inl enough
-]
+held cert v (suc l) = grind (arith, nat_tests)
 
 has_lower : (cert : Certificate) (v : ℕ) → HasLower cert v ⊎ ¬ (HasLower cert v)
 has_lower cert v = held cert v (get_or cert.levels v 0)
@@ -31,10 +24,7 @@ record MeetBelow (cert : Certificate) (k : ℕ) : Type 0 where
   lower : (v : ℕ) → v < k → HasLower cert v
 
 one_more : (P : ℕ → Type 0) (k : ℕ) → ((v : ℕ) → v < k → P v) → P k → (v : ℕ) → v < suc k → P v
-one_more P k h here v lt = elim (cases_lt v k) [
-  | inl under ↦ h v under
-  | inr over ↦ let e : k ≡ v = omega (arith, over, lt) in rw e at here
-]
+one_more P k h here v lt = grind (arith, nat_tests)
 
 -- a breach below k, or none
 below : (cert : Certificate) (k : ℕ) → k ≤ cert.graph.vertices → MeetBelow cert k ⊎ ((verdict : Verdict) × IsVerdict cert verdict)

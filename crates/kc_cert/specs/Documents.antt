@@ -114,6 +114,7 @@ stage_after (AtBody cert zero a b zero) k = onward (λ u. AtInputEnd cert) (clos
 stage_after (AtInputEnd cert) k = onward (λ u. Done cert) (input_end_of k)
 stage_after (Done cert) k = Err (misfit k)
 
+-- the document after a line that leads to a stage or doesn't fit; `next` gives the document of the lines that follow
 abbrev pub act : ℕ → Result Stage Reason → (Stage → Document) → Document
 act number (Ok stage) next = next stage
 act number (Err reason) next = Refused number reason

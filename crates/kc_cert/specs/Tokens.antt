@@ -1,7 +1,7 @@
 -- The tokens of a certificate: what each line that isn't skipped says by itself.
 use Rattle.std.specs.Prelude.{ℕ, Bool, true, false, ◌&&◌, List, [], ◌∷◌, Option, Some, None, if◌then◌else◌, codes}
 use Rattle.std.specs.Str.{bytes_eq}
-use Rattle.std.specs.Option.{option_map}
+use Rattle.std.specs.Option.{option_map, option_and_then, option_map_or}
 use Rattle.kc_levels.specs.declared.profile.Profile.{Profile}
 use Rattle.kc_levels.specs.declared.profile.Profile.TheVariants.{One, Two}
 use Rattle.kc_text.specs.declared.line.Line.{Line}
@@ -14,12 +14,17 @@ use Rattle.kc_cert.specs.declared.token.Token.{Token}
 use Rattle.kc_cert.specs.declared.token.Kind.{Kind}
 use Rattle.kc_cert.specs.declared.token.Kind.TheVariants as kind
 
--- the number that one word says
-unfoldable pub one_number : List (List ℕ) → Option ℕ
-one_number [] = None
-one_number (w ∷ []) = number_of w
-one_number (v ∷ w ∷ ws) = None
+-- the word, if there is exactly one
+unfoldable pub only_word : List (List ℕ) → Option (List ℕ)
+only_word [] = None
+only_word (w ∷ []) = Some w
+only_word (v ∷ w ∷ ws) = None
 
+-- the number that one word says
+abbrev pub one_number : List (List ℕ) → Option ℕ
+one_number ws = option_and_then number_of (only_word ws)
+
+-- two numbers, if both were read
 abbrev pub both_numbers : Option ℕ → Option ℕ → Option (ℕ × ℕ)
 both_numbers (Some a) (Some b) = Some (a, b)
 both_numbers (Some a) None = None
@@ -38,51 +43,32 @@ profile_named name =
     else None
 
 -- the profile that one word names
-unfoldable pub profile_in : List (List ℕ) → Option Profile
-profile_in [] = None
-profile_in (w ∷ []) = profile_named w
-profile_in (v ∷ w ∷ ws) = None
+abbrev pub profile_in : List (List ℕ) → Option Profile
+profile_in ws = option_and_then profile_named (only_word ws)
 
 -- the one word `1`
-unfoldable pub is_version : List (List ℕ) → Bool
-is_version [] = false
-is_version (w ∷ []) = bytes_eq w (codes "1")
-is_version (v ∷ w ∷ ws) = false
+abbrev pub is_version : List (List ℕ) → Bool
+is_version ws = option_map_or (λ w. bytes_eq w (codes "1")) (only_word ws) false
 
 -- no word
 abbrev pub is_nothing : List (List ℕ) → Bool
 is_nothing [] = true
 is_nothing (w ∷ ws) = false
 
-abbrev pub edge_kind : Option (ℕ × ℕ) → Kind
-edge_kind (Some p) = kind.Edge p.0 p.1
-edge_kind None = kind.Other
-
-abbrev pub level_kind : Option (ℕ × ℕ) → Kind
-level_kind (Some p) = kind.Level p.0 p.1
-level_kind None = kind.Other
-
-abbrev pub vertices_kind : Option ℕ → Kind
-vertices_kind (Some n) = kind.Vertices n
-vertices_kind None = kind.Other
-
-abbrev pub count_kind : Option ℕ → Kind
-count_kind (Some m) = kind.EdgeCount m
-count_kind None = kind.Other
-
-abbrev pub profile_kind : Option Profile → Kind
-profile_kind (Some p) = kind.Profile p
-profile_kind None = kind.Other
+-- the token of a value that was read, if any
+abbrev pub kind_by : {T : Type 0} → (T → Kind) → Option T → Kind
+kind_by f (Some x) = f x
+kind_by f None = kind.Other
 
 -- the token of a line of these words
 unfoldable pub kind_of_words : List (List ℕ) → Kind
 kind_of_words [] = kind.Other
 kind_of_words (name ∷ ws) =
-    if bytes_eq name (codes "edge") then edge_kind (two_numbers ws)
-    else if bytes_eq name (codes "level") then level_kind (two_numbers ws)
-    else if bytes_eq name (codes "vertices") then vertices_kind (one_number ws)
-    else if bytes_eq name (codes "edges") then count_kind (one_number ws)
-    else if bytes_eq name (codes "profile") then profile_kind (profile_in ws)
+    if bytes_eq name (codes "edge") then kind_by (λ p. kind.Edge p.0 p.1) (two_numbers ws)
+    else if bytes_eq name (codes "level") then kind_by (λ p. kind.Level p.0 p.1) (two_numbers ws)
+    else if bytes_eq name (codes "vertices") then kind_by (λ n. kind.Vertices n) (one_number ws)
+    else if bytes_eq name (codes "edges") then kind_by (λ m. kind.EdgeCount m) (one_number ws)
+    else if bytes_eq name (codes "profile") then kind_by (λ p. kind.Profile p) (profile_in ws)
     else if bytes_eq name (codes "kcore-cert") && is_version ws then kind.Magic
     else if bytes_eq name (codes "end") && is_nothing ws then kind.Close
     else kind.Other

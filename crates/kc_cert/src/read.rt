@@ -117,14 +117,13 @@ fn read_edges<S: Source>(
     let n = head.n;
     let mut graph = Graph::new(alloc, n)?;
     let mut waiting = Vec::new(alloc);
-    let mut a = 0;
-    let mut b = 0;
+    // The least pair that the next edge may be.
+    let mut low = (0, 0);
     for i in 0..head.edges {
         let token = next_token(alloc, reader, src)?;
-        let edge = fit_at(token.number, edge_of(n, a, b, token.kind))?;
+        let edge = fit_at(token.number, edge_of(n, low, token.kind))?;
         add_edge(alloc, &mut graph, &mut waiting, edge)?;
-        a = edge.a;
-        b = edge.b + 1;
+        low = (edge.a, edge.b + 1);
     }
     let_in(alloc, &mut graph, &mut waiting)?;
     Ok(graph)

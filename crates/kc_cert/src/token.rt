@@ -4,7 +4,7 @@ ghost use Rattle.std.specs.Option.{option_map};
 ghost use Rattle.kc_text.specs.Causes.{ReadCause};
 ghost use Rattle.kc_text.specs.Kept.{is_skipped};
 ghost use Rattle.kc_text.specs.Words.{words};
-ghost use Rattle.kc_cert.specs.Tokens.{one_number, two_numbers, profile_named, profile_in, is_version, kind_of_words, kind_of, tokens_left};
+ghost use Rattle.kc_cert.specs.Tokens.{only_word, one_number, two_numbers, profile_named, profile_in, is_version, kind_of_words, kind_of, tokens_left};
 ghost use Rattle.kc_cert.specs.private.Tokens.{onto_token};
 
 use kc_levels::Profile;
@@ -50,16 +50,23 @@ pub struct Token {
     pub kind: Kind,
 }
 
-// Returns the number in the one word of a text.
-#[tactic(auto, unfolding(crate::specs::Tokens::one_number))]
-fn one_number(text: &[u8]) -> Option<u32>
-    ensures { result ≡ one_number (words text.now) }
+// Returns the word of a text, or None if there is none or more than one.
+#[tactic(auto, unfolding(crate::specs::Tokens::only_word))]
+fn only_word(text: &[u8]) -> Option<&[u8]>
+    ensures { option_map (λ word. word.now) result ≡ only_word (words text.now) }
 {
     let (word, rest) = split_word(text)?;
     if split_word(rest).is_some() {
         return None;
     }
-    read_number(word)
+    Some(word)
+}
+
+// Returns the number in the one word of a text.
+fn one_number(text: &[u8]) -> Option<u32>
+    ensures { result ≡ one_number (words text.now) }
+{
+    read_number(only_word(text)?)
 }
 
 // Returns the two numbers in the two words of a text.
@@ -86,24 +93,18 @@ fn profile_named(name: &[u8]) -> Option<Profile>
 }
 
 // Returns the profile that the one word of a text names.
-#[tactic(auto, unfolding(crate::specs::Tokens::profile_in))]
 fn profile_in(text: &[u8]) -> Option<Profile>
     ensures { result ≡ profile_in (words text.now) }
 {
-    let (name, rest) = split_word(text)?;
-    if split_word(rest).is_some() {
-        return None;
-    }
-    profile_named(name)
+    profile_named(only_word(text)?)
 }
 
 // Returns whether the one word of a text is `1`.
-#[tactic(auto, unfolding(crate::specs::Tokens::is_version))]
 fn is_version(text: &[u8]) -> bool
     ensures { result ≡ is_version (words text.now) }
 {
-    match split_word(text) {
-        Some((name, rest)) => split_word(rest).is_none() && is_named(name, b"1"),
+    match only_word(text) {
+        Some(word) => is_named(word, b"1"),
         None => false,
     }
 }

@@ -1,4 +1,4 @@
-//! A line in its place: each call returns what the line says, or why it doesn't fit.
+//! A line in its place: each call returns what the line says, or why it doesn't fit there.
 ghost use Rattle.std.specs.Prelude.{◌≡◌, ◌<◌, ◌≤◌, ◌^◌, IfOk};
 ghost use Rattle.kc_cert.specs.Documents.{misfit, magic_of, profile_of, vertices_of, edge_count_of, edge_of, level_of, close_of, input_end_of};
 
@@ -19,7 +19,7 @@ fn misfit(kind: Kind) -> Reason
     }
 }
 
-/// Reads the first line.
+/// Succeeds if the line is `kcore-cert 1`.
 pub fn magic_of(kind: Kind) -> Result<(), Reason>
     ensures { result ≡ magic_of kind }
 {
@@ -29,7 +29,7 @@ pub fn magic_of(kind: Kind) -> Result<(), Reason>
     }
 }
 
-/// Reads the profile.
+/// Returns the profile of the line.
 pub fn profile_of(kind: Kind) -> Result<Profile, Reason>
     ensures { result ≡ profile_of kind }
 {
@@ -39,7 +39,7 @@ pub fn profile_of(kind: Kind) -> Result<Profile, Reason>
     }
 }
 
-/// Reads the number of vertices, 1 to `MAX_VERTICES`.
+/// Returns the number of vertices of the line, 1 to `MAX_VERTICES`.
 pub fn vertices_of(kind: Kind) -> Result<u32, Reason>
     ensures number { result ≡ vertices_of kind }
     ensures range { IfOk result (λ n. (1 ≤ n) × (n ≤ MAX_VERTICES)) }
@@ -50,7 +50,7 @@ pub fn vertices_of(kind: Kind) -> Result<u32, Reason>
     }
 }
 
-/// Reads the number of edges, at most `MAX_EDGES`.
+/// Returns the number of edges of the line, at most `MAX_EDGES`.
 pub fn edge_count_of(kind: Kind) -> Result<u32, Reason>
     ensures number { result ≡ edge_count_of kind }
     ensures range { IfOk result (λ m. m ≤ MAX_EDGES) }
@@ -61,47 +61,31 @@ pub fn edge_count_of(kind: Kind) -> Result<u32, Reason>
     }
 }
 
-/// Reads an edge between vertices below `n` that isn't before `(a, b)`.
+/// Returns the edge of the line: its vertices are below `n`, and it isn't before the pair `low`.
 #[inline(always)]
-pub fn edge_of(n: u32, a: u32, b: u32, kind: Kind) -> Result<Edge, Reason>
-    ensures { result ≡ edge_of n a b kind }
+pub fn edge_of(n: u32, low: (u32, u32), kind: Kind) -> Result<Edge, Reason>
+    ensures { result ≡ edge_of n low.0 low.1 kind }
 {
     match kind {
-        Kind::Edge(x, y) => {
-            if x >= n || y >= n {
-                return Err(Reason::BadVertex);
-            }
-            if x < y && (a < x || (a == x && b <= y)) {
-                Ok(Edge { a: x, b: y })
-            } else {
-                Err(Reason::BadLine)
-            }
-        }
+        Kind::Edge(a, b) if a >= n || b >= n => Err(Reason::BadVertex),
+        Kind::Edge(a, b) if a < b && (low.0 < a || (low.0 == a && low.1 <= b)) => Ok(Edge { a, b }),
         _ => Err(misfit(kind)),
     }
 }
 
-/// Reads the level, at most `top`, of vertex `next` below `n`.
+/// Returns the level of the line: it is of vertex `next` below `n`, and at most `top`.
 #[inline(always)]
 pub fn level_of(n: u32, top: u16, next: u32, kind: Kind) -> Result<u16, Reason>
     ensures { result ≡ level_of n top next kind }
 {
     match kind {
-        Kind::Level(v, level) => {
-            if v >= n {
-                return Err(Reason::BadVertex);
-            }
-            if v == next && level <= u32::from(top) {
-                Ok(level as u16)
-            } else {
-                Err(Reason::BadLine)
-            }
-        }
+        Kind::Level(v, _) if v >= n => Err(Reason::BadVertex),
+        Kind::Level(v, level) if v == next && level <= u32::from(top) => Ok(level as u16),
         _ => Err(misfit(kind)),
     }
 }
 
-/// Reads `end`.
+/// Succeeds if the line is `end`.
 pub fn close_of(kind: Kind) -> Result<(), Reason>
     ensures { result ≡ close_of kind }
 {
@@ -111,7 +95,7 @@ pub fn close_of(kind: Kind) -> Result<(), Reason>
     }
 }
 
-/// Reads the end of the input.
+/// Succeeds if the input ends here.
 pub fn input_end_of(kind: Kind) -> Result<(), Reason>
     ensures { result ≡ input_end_of kind }
 {

@@ -9,9 +9,6 @@ use Rattle.kc_levels.specs.Moved.{is_moved}
 use Rattle.kc_levels.proofs.lemmas.Moves.{distinct_push}
 use Rattle.kc_delete.specs.private.Fallen.{AreFallen}
 
-pub fallen_none : (x : List ℕ) → AreFallen x x []
-fallen_none x = record { listed = λ v. grind (arith, nat_tests); once = record {} }
-
 -- v falls from a level to a lower one
 module _ (x y vs : List ℕ) (v from to : ℕ) (s : AreFallen x y vs) (inside : v < length y) (here : from ≡ get_or y v 0) (under : from ≤ get_or x v 0) (less : to < from) where
   moved_now : is_moved x (set y v to) v ≡ true
@@ -40,19 +37,6 @@ module _ (x y vs : List ℕ) (v from to : ℕ) (s : AreFallen x y vs) (inside : 
 
       kept : (u : ℕ) → u ≢ v → has_number u vs || eqb v u ≡ has_number u vs
       kept u ne = grind (arith, nat_tests, ne)
-
-  -- it fell before
-  pub noted_again : get_or x v 0 ≢ from → AreFallen x (set y v to) vs
-  noted_again again = record {
-    listed = λ u. s.listed u ∙ elim (cases_eq u v) [
-      | inl e ↦ ap (is_moved x y) e ∙ moved ∙ sym (ap (is_moved x (set y v to)) e ∙ moved_now)
-      | inr ne ↦ sym (same_other u ne)
-    ];
-    once = s.once;
-  }
-    where
-      moved : is_moved x y v ≡ true
-      moved = grind (arith, nat_tests, again, here)
 
 -- who waits, where nobody does
 pub none_marked : (marks : List Bool) → ((v : ℕ) → get_or marks v false ≡ false) → marks ≡ replicate (length marks) false

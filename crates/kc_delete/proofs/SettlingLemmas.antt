@@ -3,9 +3,8 @@ use Rattle.std.proofs.Common.{ℕ, suc, zero, ◌+◌, ◌*◌, ◌≤◌, ◌<�
 use Rattle.std.specs.Prelude.{count_by}
 use Rattle.std.proofs.lemmas.Bool.{cases_eq, cases_Bool, true≢false}
 use Rattle.std.proofs.lemmas.Bool.Decides.{nat_tests}
-use Rattle.std.proofs.lemmas.List.{length-set, get_or-set_same, get_or-set_other}
-use Rattle.std.proofs.lemmas.List.Sums.{sum_by-set, count_by-le-length}
-use Rattle.std.proofs.Math.Nat.{mul-le-mul_right}
+use Rattle.std.proofs.lemmas.List.{get_or-set_same, get_or-set_other}
+use Rattle.std.proofs.lemmas.List.Sums.{sum_by-set}
 use Rattle.kc_graph.specs.Numbers.{has_number}
 use Rattle.kc_graph.specs.Shape.{GraphShape, Pair, IsGraph, EdgesFrom, neighbours_of, without_edge, without_edges}
 use Rattle.kc_graph.proofs.lemmas.Numbers.{has_number_index}
@@ -14,28 +13,13 @@ use Rattle.kc_graph.proofs.lemmas.Neighbours.{neighbours_both, neighbours_of_rem
 use Rattle.kc_graph.proofs.lemmas.Changes.{vertices-without_edges}
 use Rattle.kc_levels.specs.declared.profile.Profile.{Profile}
 use Rattle.kc_levels.specs.Thresholds.{Scale, low}
-use Rattle.kc_levels.specs.LevelList.{at_least, IsHeld, MeetsLower, IsDesired, IsLowered, IsWithin}
+use Rattle.kc_levels.specs.LevelList.{at_least, IsHeld, MeetsLower, IsDesired, IsWithin}
 use Rattle.kc_levels.proofs.lemmas.Writes.{changed}
 use Rattle.kc_levels.proofs.lemmas.AtLeast.{at_least-set, at_least-kept}
-use Rattle.kc_levels.proofs.lemmas.Lowering.{lowering_first, lowering_more, lowering_done}
+use Rattle.kc_levels.proofs.lemmas.Lowering.{lowering_first, lowering_more}
 use Rattle.kc_adj.specs.LeveledGraph.{LeveledGraph}
 use Rattle.kc_delete.specs.private.Waiting.{IsSifted, IsTaken}
-use Rattle.kc_delete.specs.private.Settling.{WaitsOrMeets, IsSettling, StillWait, IsUntouched, IsLookedAt, ends_of}
-
--- a mark more
-pub still_set : (waits : List Bool) (v : ℕ) → v < length waits → StillWait waits (set waits v true)
-still_set waits v inside u marked = elim (cases_eq u v) [
-  | inl e ↦ rw e (get_or-set_same waits v true false inside)
-  | inr ne ↦ get_or-set_other waits v u true false ne ∙ marked
-]
-
-pub waits_or_meets_still : (p : Profile) (g : GraphShape) (y : List ℕ) (before after : List Bool) (v : ℕ) → StillWait before after → WaitsOrMeets p g y before v → WaitsOrMeets p g y after v
-waits_or_meets_still p g y before after v still (inl waits) = inl (still v waits)
-waits_or_meets_still p g y before after v still (inr meets) = inr meets
-
-pub looked_at_still : (p : Profile) (g : GraphShape) (from to : ℕ) (y : List ℕ) (before after : List Bool) (v : ℕ) → StillWait before after → IsLookedAt p g from to y before v → IsLookedAt p g from to y after v
-looked_at_still p g from to y before after v still (inl untouched) = inl untouched
-looked_at_still p g from to y before after v still (inr looked) = inr (waits_or_meets_still p g y before after v still looked)
+use Rattle.kc_delete.specs.private.Settling.{WaitsOrMeets, IsSettling, StillWait, KeepsCount, IsLookedAt, ends_of}
 
 -- levels stay within the top when edges leave
 pub within_after : (th : Scale) (a : LeveledGraph) (es : List Pair) → IsWithin th a.graph a.levels → IsWithin th (without_edges a.graph es) a.levels
@@ -52,20 +36,6 @@ held_same p g y z v (suc l) same held = omega (arith, held, same l refl)
 -- the marks after v was taken
 other_mark : (waits : List Bool) (u v : ℕ) → u ≢ v → get_or waits u false ≡ true → get_or (set waits v false) u false ≡ true
 other_mark waits u v ne marked = get_or-set_other waits v u false false ne ∙ marked
-
--- the vertex that is taken stays
-pub settling_kept : (p : Profile) (g : GraphShape) (x y : List ℕ) (waits : List Bool) (v : ℕ) → IsSettling p g x y waits → MeetsLower p g y v → IsSettling p g x y (set waits v false)
-settling_kept p g x y waits v s meets = record {
-  lowering = s.lowering;
-  sized = length-set waits v false ∙ s.sized;
-  meets = λ u h. elim (cases_eq u v) [
-    | inl e ↦ inr (subst (MeetsLower p g y) (sym e) meets)
-    | inr ne ↦ elim (s.meets u h) [
-      | inl marked ↦ inl (other_mark waits u v ne marked)
-      | inr held ↦ inr held
-    ]
-  ];
-}
 
 -- the vertex that is taken falls to its desired level, and its neighbours are looked at
 pub settling_fall : (p : Profile) (g : GraphShape) (x y : List ℕ) (waits after : List Bool) (v to : ℕ) → IsGraph g → IsSettling p g x y waits → v < g.vertices → IsDesired p g y v to → length after ≡ g.vertices → StillWait (set waits v false) after → ((k : ℕ) → k < length (neighbours_of v g.edges) → IsLookedAt p g (get_or y v 0) to (set y v to) after (get_or (neighbours_of v g.edges) k 0)) → IsSettling p g x (set y v to) after
@@ -86,15 +56,15 @@ settling_fall p g x y waits after v to graph s vertex d sized still looked = rec
       | inr held ↦ inr (held_same p g y (set y v to) u (get_or y u 0) same held)
     ]
 
-    near_kept : (u : ℕ) → u ≢ v → has_number u (neighbours_of v g.edges) ≡ true → IsUntouched (get_or y v 0) to (get_or (set y v to) u 0) → (l : ℕ) → get_or y u 0 ≡ suc l → at_least g (set y v to) u l ≡ at_least g y u l
-    near_kept u ne near untouched l e = at_least-kept g y u v to l graph inside near (side (get_or y v 0) to (get_or (set y v to) u 0) l d.under (get_or-set_other y v u to 0 ne ∙ e) untouched)
+    near_kept : (u : ℕ) → u ≢ v → has_number u (neighbours_of v g.edges) ≡ true → KeepsCount (get_or y v 0) to (get_or (set y v to) u 0) → (l : ℕ) → get_or y u 0 ≡ suc l → at_least g (set y v to) u l ≡ at_least g y u l
+    near_kept u ne near keeps l e = at_least-kept g y u v to l graph inside near (side (get_or y v 0) to (get_or (set y v to) u 0) l d.under (get_or-set_other y v u to 0 ne ∙ e) keeps)
       where
-        side : (from into level l : ℕ) → into ≤ from → level ≡ suc l → IsUntouched from into level → (l ≤ from) × (l ≤ into) ⊎ (from < l) × (into < l)
+        side : (from into level l : ℕ) → into ≤ from → level ≡ suc l → KeepsCount from into level → (l ≤ from) × (l ≤ into) ⊎ (from < l) × (into < l)
         side from into level l le is (inl low) = inl (omega arith, omega arith)
         side from into level l le is (inr high) = inr (omega arith, omega arith)
 
     near_looked : (u : ℕ) → u < g.vertices → u ≢ v → has_number u (neighbours_of v g.edges) ≡ true → IsLookedAt p g (get_or y v 0) to (set y v to) after u → (get_or after u false ≡ true) ⊎ IsHeld p g (set y v to) u (get_or y u 0)
-    near_looked u h ne near (inl untouched) = as_before u h ne (near_kept u ne near untouched)
+    near_looked u h ne near (inl keeps) = as_before u h ne (near_kept u ne near keeps)
     near_looked u h ne near (inr (inl marked)) = inl marked
     near_looked u h ne near (inr (inr held)) = inr (subst (IsHeld p g (set y v to) u) (get_or-set_other y v u to 0 ne) held)
 
@@ -116,13 +86,6 @@ settling_sifted p g h x y before after same s r = record {
     | inr meets ↦ inr meets
   ];
 }
-
--- nobody waits
-pub settling_done : (p : Profile) (g : GraphShape) (x y : List ℕ) (waits : List Bool) → IsSettling p g x y waits → ((v : ℕ) → get_or waits v false ≡ false) → IsLowered p g x y
-settling_done p g x y waits s none = lowering_done p g x y s.lowering (λ v h. elim (s.meets v h) [
-  | inl marked ↦ absurd (true≢false (sym marked ∙ none v))
-  | inr held ↦ held
-])
 
 -- how much there is still to be done: each level that a vertex falls may let all vertices wait
 abbrev pub work_left : GraphShape → List ℕ → List Bool → ℕ
@@ -150,26 +113,11 @@ fewer_marks (a ∷ as_) [] same fewer = absurd (omega (arith, same))
 fewer_marks (a ∷ as_) (b ∷ bs) same fewer =
     rw (count_by-cons (λ c. c) b bs, count_by-cons (λ c. c) a as_) (one_less b a _ _ (fewer zero) (fewer_marks as_ bs (omega (arith, same)) (λ v. fewer (suc v))))
 
--- who leaves leaves less to do
-pub work_sifted : (p : Profile) (g : GraphShape) (y : List ℕ) (before after : List Bool) → IsSifted p g y before after → work_left g y after ≤ work_left g y before
-work_sifted p g y before after r = omega (arith, fewer_marks before after r.sized r.fewer)
-
 pub work_taken : (p : Profile) (h g : GraphShape) (y : List ℕ) (before after : List Bool) (v : ℕ) → IsTaken p h y before after v → work_left g y after < work_left g y before
 work_taken p h g y before after v t =
     let less : work_left g y (set t.between v false) < work_left g y t.between = work_kept g y t.between v t.inside t.waited in
     let fewer : count_by (λ b. b) t.between ≤ count_by (λ b. b) before = fewer_marks before t.between t.sifted.sized t.sifted.fewer in
     rw t.taken (omega (arith, less, fewer))
-
-pub work_falls : (g : GraphShape) (y : List ℕ) (waits after : List Bool) (v to : ℕ) → v < length y → to < get_or y v 0 → length after ≡ g.vertices → work_left g (set y v to) after < work_left g y waits
-work_falls g y waits after v to inside less sized =
-    let total : sum (set y v to) + get_or y v 0 ≡ sum y + to = sum_by-set (λ l. l) y v to 0 inside in
-    fewer (sum (set y v to)) (sum y) g.vertices (count_by (λ b. b) after) (count_by (λ b. b) waits) (omega arith) (omega (arith, count_by-le-length (λ b. b) after))
-  where
-    fewer : (a b n new old : ℕ) → a + 1 ≤ b → new ≤ n → a * (n + 1) + new < b * (n + 1) + old
-    fewer a zero n new old falls few = absurd (omega arith)
-    fewer a (suc b) n new old falls few =
-        let most : a * (n + 1) ≤ b * (n + 1) = mul-le-mul_right (n + 1) (omega arith) in
-        omega arith
 
 -- an end of an edge of the list stands in it at some place
 pub end_index : (v : ℕ) (es : List Pair) (d : Pair) → has_number v (ends_of es) ≡ true → (k : ℕ) × (k < length es) × ((v ≡ (get_or es k d).0) ⊎ (v ≡ (get_or es k d).1))

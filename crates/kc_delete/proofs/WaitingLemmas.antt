@@ -1,6 +1,6 @@
 -- Vertices that wait, filed by level.
 use Rattle.std.proofs.Common.{Option, Some, None, is_some, IfNone, ℕ, suc, zero, ◌+◌, ◌-◌, ◌≤◌, ◌<◌, ◌≡◌, ◌≢◌, inl, inr, Bool, true, false, not, eqb, ltb, ◌||◌, ◌&&◌, filter, List, [], ◌∷◌, ◌++◌, length, get_or, set, take, replicate, refl, ap, sym, ◌∙◌, arith, subst}
-use Rattle.std.proofs.lemmas.Bool.{cases_eq, cases_lt, cases_Bool, true≢false}
+use Rattle.std.proofs.lemmas.Bool.{cases_eq, cases_Bool, true≢false}
 use Rattle.std.proofs.lemmas.Bool.Decides.{nat_tests}
 use Rattle.std.proofs.lemmas.List.{length-replicate, length-set, get_or-set_same, get_or-set_other, take_more}
 use Rattle.kc_graph.specs.Numbers.{has_number}
@@ -92,39 +92,6 @@ pub filed_ended : (first : ℕ) (bs : List (List ℕ)) (round rest : List ℕ) (
 filed_ended first bs round rest before after f same none still = filed_fewer first bs round [] before after f (ap (λ (bs : List Bool). length bs) same) (λ v there. absurd (true≢false (sym there)))
     (λ v marked. (ap (λ (bs : List Bool). get_or bs v false) (sym same) ∙ marked, λ here. ap (has_number v) (sym none) ∙ still v marked here))
 
--- on the levels before a further one nobody is filed
-pub filed_on : (first level : ℕ) (bs : List (List ℕ)) (round : List ℕ) (waits : List Bool) → level ≤ length bs → ((k : ℕ) → first ≤ k → k < level → get_or bs k [] ≡ []) → AreFiled first bs round waits → AreFiled level bs round waits
-filed_on first level bs round waits inside none f = record {
-  start = inside;
-  below = f.below;
-  inside = f.inside;
-  filed = λ v marked. elim (f.filed v marked) [
-    | inl here ↦ inl here
-    | inr i ↦ elim (cases_lt i.level level) [
-      | inl before ↦ absurd (true≢false (sym i.there ∙ ap (has_number v) (none i.level i.from before)))
-      | inr from ↦ inr (record { level = i.level; from = from; inside = i.inside; there = i.there })
-    ]
-  ];
-}
-
--- the bucket of the least level becomes the round
-pub filed_round : (first : ℕ) (bs cs : List (List ℕ)) (round : List ℕ) (waits : List Bool) → first < length bs → round ≡ get_or bs first [] → cs ≡ set bs first [] → AreFiled first bs [] waits → AreFiled (first + 1) cs round waits
-filed_round first bs cs round waits inside are left f = rw left (record {
-  start = omega (arith, inside, length-set bs first []);
-  below = λ k v there. elim (cases_eq k first) [
-    | inl e ↦ absurd (true≢false (sym there ∙ ap (λ j. has_number v (get_or (set bs first []) j [])) e ∙ ap (has_number v) (get_or-set_same bs first [] [] inside)))
-    | inr ne ↦ f.below k v (ap (has_number v) (sym (get_or-set_other bs first k [] [] ne)) ∙ there)
-  ];
-  inside = λ v there. f.below first v (ap (has_number v) (sym are) ∙ there);
-  filed = λ v marked. elim (f.filed v marked) [
-    | inl here ↦ absurd (true≢false (sym here))
-    | inr i ↦ elim (cases_eq i.level first) [
-      | inl e ↦ inl (ap (has_number v) are ∙ ap (λ j. has_number v (get_or bs j [])) (sym e) ∙ i.there)
-      | inr ne ↦ inr (record { level = i.level; from = omega (arith, i.from, ne); inside = omega (arith, i.inside, length-set bs first []); there = ap (has_number v) (get_or-set_other bs first i.level [] [] ne) ∙ i.there })
-    ]
-  ];
-})
-
 -- nobody is in the round, and there are no further buckets
 pub filed_last : (first : ℕ) (bs : List (List ℕ)) (round : List ℕ) (waits : List Bool) → AreFiled first bs round waits → round ≡ [] → length bs ≤ first → (v : ℕ) → get_or waits v false ≡ false
 filed_last first bs round waits f none last v = elim (cases_Bool (get_or waits v false)) [
@@ -156,10 +123,6 @@ if_none (Some v) P none holds = absurd (true≢false none)
 pub round_begun : (first next_first : ℕ) (bs next_bs : List (List ℕ)) (round rest next : List ℕ) (before after : List Bool) (taken : Option ℕ) → AreFiled first bs round before → is_some taken ≡ false → IfNone taken (after ≡ before) → IfNone taken (rest ≡ []) → ((v : ℕ) → get_or after v false ≡ true → has_number v round ≡ true → has_number v rest ≡ true) → ((waits : List Bool) → AreFiled first bs [] waits → AreFiled next_first next_bs next waits) → AreFiled next_first next_bs next after
 round_begun first next_first bs next_bs round rest next before after taken f none kept ended still begun =
     begun after (filed_ended first bs round rest before after f (if_none taken (after ≡ before) none kept) (if_none taken (rest ≡ []) none ended) still)
-
--- nobody left
-pub sifted_first : (p : Profile) (g : GraphShape) (y : List ℕ) (waits : List Bool) → IsSifted p g y waits waits
-sifted_first p g y waits = record { sized = refl; fewer = λ v marked. marked; meets = λ v marked. inl marked }
 
 -- some leave, and then others
 pub sifted_then : (p : Profile) (g : GraphShape) (y : List ℕ) (before between after : List Bool) → IsSifted p g y before between → IsSifted p g y between after → IsSifted p g y before after

@@ -4,15 +4,15 @@
 ghost use Rattle.std.specs.Prelude.{◌≡◌, ℕ, ◌<◌, ◌≤◌, OnOk, IfOk, length, true};
 ghost use Rattle.kc_graph.specs.Numbers.{has_number};
 ghost use Rattle.kc_graph.specs.Shape.{EdgesFrom, without_edges};
-ghost use Rattle.kc_graph.specs.Changes.{AllPresent, CanRemove};
+ghost use Rattle.kc_graph.specs.Changes.{AllPresent};
 ghost use Rattle.kc_levels.specs.LevelList.{MeetsLower, IsLowered, IsWithin};
 ghost use Rattle.kc_levels.specs.Moved.{moved_count, moves_between};
 ghost use Rattle.kc_delete.specs.Working.{IsReady};
-ghost use Rattle.kc_delete.specs.private.Capped.{profile_of, graph_of, levels_of};
-ghost use Rattle.kc_delete.specs.private.Settling.{WaitsOrMeets, ends_of};
+ghost use Rattle.kc_delete.specs.private.Capped.{graph_of, WaitsOrMeetsIn};
+ghost use Rattle.kc_delete.specs.private.Settling.{ends_of};
 
 use crate::capped::Capped;
-use crate::settling::{add_if_short, settle};
+use crate::settling::{add_if_short, lower_levels};
 use crate::waiting::Waiting;
 use crate::work::DeletionWork;
 use kc_adj::{LevelAdj, Steps};
@@ -30,39 +30,6 @@ pub struct Tally {
     pub moves: u32,
 }
 
-// The least number of edges whose halves are worth a sort, so that the row of each vertex is passed over once.
-const LEAST_TOGETHER: usize = 8_192;
-
-// Removes the edges, one after another. Levels stay.
-fn unlink_each<L: Ledger>(adj: &mut LevelAdj, removed: &[Edge], steps: &mut Steps<L>)
-    requires removable { CanRemove adj.old.graph removed.now }
-    ensures { adj.new ≡ record adj.old { graph = without_edges adj.old.graph removed.now } }
-{
-    for e in removed {
-        adj.unlink(*e, steps);
-    }
-}
-
-// Removes the edges, many of them by the workers of `rounds`. Levels stay. Fails only if memory runs out.
-fn unlink_edges<R: Threads + Sync, G: Gate + Sync, L: Ledger>(
-    rounds: &Rounds<R, G>,
-    adj: &mut LevelAdj,
-    removed: &[Edge],
-    steps: &mut Steps<L>,
-) -> Result<(), AllocError>
-    requires ascending { EdgesFrom adj.old.graph.vertices 0 0 removed.now }
-    requires present { AllPresent adj.old.graph removed.now }
-    ensures { OnOk result (adj.new ≡ record adj.old { graph = without_edges adj.old.graph removed.now }) }
-{
-    if removed.len() < LEAST_TOGETHER {
-        unlink_each(adj, removed, steps);
-        return Ok(());
-    }
-    let crew = Crew::new(rounds.runtime(), rounds.alloc(), rounds.workers());
-    adj.unlink_all(&crew, removed, steps)?;
-    Ok(())
-}
-
 // Lets the ends of the edges wait that have too few neighbours to stand on their levels.
 fn add_short_ends(
     capped: Capped<'_>,
@@ -72,7 +39,7 @@ fn add_short_ends(
     requires sized { length waiting.old ≡ capped.adj.now.graph.vertices }
     requires ascending { EdgesFrom capped.adj.now.graph.vertices 0 0 removed.now }
     ensures sized { OnOk result (length waiting.new ≡ (graph_of capped.entry).vertices) }
-    ensures looked { OnOk result ((v : ℕ) → has_number v (ends_of removed.now) ≡ true → WaitsOrMeets (profile_of capped.entry) (graph_of capped.entry) (levels_of capped.entry) waiting.new v) }
+    ensures looked { OnOk result ((v : ℕ) → has_number v (ends_of removed.now) ≡ true → WaitsOrMeetsIn capped.entry waiting.new v) }
 {
     for e in removed {
         add_if_short(capped, e.a, waiting)?;
@@ -111,7 +78,7 @@ fn add_short_ends(
 ///
 /// So a phase has no pass over the vertices. Memory is taken for the vertices that wait, for those of a round that
 /// fall, for the fallen vertices and for the moves. The vertices that wait have a list for each level up to the
-/// greatest one under which a vertex waited. While 8,192 edges or more are unlinked, each takes 8 bytes, and 8 more
+/// greatest one under which a vertex waited. While 2,048 edges or more are unlinked, each takes 8 bytes, and 8 more
 /// while the halves of the edges are sorted.
 pub fn delete_phase<R: Threads + Sync, G: Gate + Sync, L: Ledger>(
     rounds: &Rounds<R, G>,
@@ -131,11 +98,13 @@ pub fn delete_phase<R: Threads + Sync, G: Gate + Sync, L: Ledger>(
     ensures moves { IfOk result (λ moves. moves ≡ moves_between adj.new.graph.vertices adj.old.levels adj.new.levels) }
     ensures ready { OnOk result (IsReady adj.new work.new) }
 {
+    // Evidence for the check: the edges of the graph ascend, and each vertex has a level.
     let _n = adj.graph().vertices();
     let _levels = adj.levels();
-    unlink_edges(rounds, adj, removed, steps)?;
+    let crew = Crew::new(rounds.runtime(), rounds.alloc(), rounds.workers());
+    adj.unlink_all(&crew, removed, steps)?;
     add_short_ends(Capped { adj, th }, removed, &mut work.waiting)?;
-    settle(rounds, th, adj, work, steps)?;
+    lower_levels(rounds, th, adj, work, steps)?;
     let moves = work.fallen.take_moves(rounds.alloc(), adj.levels())?;
     Ok(moves)
 }
@@ -162,6 +131,7 @@ pub fn delete_rounds<R: Threads + Sync, G: Gate + Sync, L: Ledger>(
     ensures lowered { OnOk result (IsLowered th.now.profile adj.new.graph adj.old.levels adj.new.levels) }
     ensures moves { IfOk result (λ tally. tally.moves ≡ moved_count adj.new.graph.vertices adj.old.levels adj.new.levels) }
 {
+    // Evidence for the check: the vertices of the graph are at most `MAX_VERTICES`.
     let _n = adj.graph().vertices();
     let mut work = DeletionWork::new(alloc, adj)?;
     let rounds = Rounds::new(rt, alloc, gate, workers);

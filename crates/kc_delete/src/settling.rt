@@ -4,9 +4,9 @@ ghost use Rattle.std.specs.Prelude.{◌≡◌, ℕ, ◌<◌, ◌≤◌, ◌-◌,
 ghost use Rattle.std.specs.Bool.{OnTrue, OnFalse};
 ghost use Rattle.kc_graph.specs.Shape.{IsGraph};
 ghost use Rattle.kc_levels.specs.LevelList.{IsLowered, IsWithin};
-ghost use Rattle.kc_delete.specs.private.Capped.{profile_of, graph_of, levels_of};
+ghost use Rattle.kc_delete.specs.private.Capped.{graph_of, WaitsOrMeetsIn, AreLookedAtIn};
 ghost use Rattle.kc_delete.specs.private.Fallen.{AreFallen};
-ghost use Rattle.kc_delete.specs.private.Settling.{IsSettling, WaitsOrMeets, StillWait, IsUntouched, AreLookedAt};
+ghost use Rattle.kc_delete.specs.private.Settling.{IsSettling, StillWait, KeepsCount};
 
 use crate::capped::Capped;
 use crate::short::is_short;
@@ -27,9 +27,10 @@ pub fn add_if_short(capped: Capped<'_>, v: u32, waiting: &mut Waiting) -> Result
     requires sized { length waiting.old ≡ capped.adj.now.graph.vertices }
     ensures sized { OnOk result (length waiting.new ≡ (graph_of capped.entry).vertices) }
     ensures still { OnOk result (StillWait waiting.old waiting.new) }
-    ensures looked { OnOk result (WaitsOrMeets (profile_of capped.entry) (graph_of capped.entry) (levels_of capped.entry) waiting.new v) }
+    ensures looked { OnOk result (WaitsOrMeetsIn capped.entry waiting.new v) }
 {
     let Capped { adj, th } = capped;
+    // Evidence for the check: the top is below 65,535.
     let _top = th.top();
     if is_short(capped, v) && !waiting.has(v) {
         waiting.add(v, adj.desired(th, v))?;
@@ -37,11 +38,11 @@ pub fn add_if_short(capped: Capped<'_>, v: u32, waiting: &mut Waiting) -> Result
     Ok(())
 }
 
-// Returns whether a neighbour on level `level` loses a vertex from its count that falls from `from` to `to`. The
-// neighbour counts from the level below its own on.
-fn is_touched(from: u16, to: u16, level: u16) -> bool
-    ensures touched { OnTrue result ((to < level - 1) × (level - 1 ≤ from)) }
-    ensures untouched { OnFalse result (IsUntouched from to level) }
+// Returns whether a neighbour that falls from `from` to `to` drops out of the count of a vertex on `level`. The vertex
+// counts from the level below its own on.
+fn loses_count(from: u16, to: u16, level: u16) -> bool
+    ensures loses { OnTrue result ((to < level - 1) × (level - 1 ≤ from)) }
+    ensures keeps { OnFalse result (KeepsCount from to level) }
 {
     let reach = level.saturating_sub(1);
     to < reach && reach <= from
@@ -58,12 +59,12 @@ fn add_short_neighbours(
     requires sized { length waiting.old ≡ capped.adj.now.graph.vertices }
     ensures sized { OnOk result (length waiting.new ≡ (graph_of capped.entry).vertices) }
     ensures still { OnOk result (StillWait waiting.old waiting.new) }
-    ensures looked { OnOk result (AreLookedAt (profile_of capped.entry) (graph_of capped.entry) v from (levels_of capped.entry) waiting.new) }
+    ensures looked { OnOk result (AreLookedAtIn capped.entry v from waiting.new) }
 {
     let adj = capped.adj;
     let to = adj.level(v);
     for w in adj.graph().neighbours(v) {
-        if is_touched(from, to, adj.level(*w)) {
+        if loses_count(from, to, adj.level(*w)) {
             add_if_short(capped, *w, waiting)?;
         }
     }
@@ -75,7 +76,7 @@ fn add_short_neighbours(
 ///
 /// No vertex has fallen before; afterwards all fallen vertices are noted. Fails only if memory runs out; then all is
 /// unspecified.
-pub fn settle<R: Threads + Sync, G: Gate + Sync, L: Ledger>(
+pub fn lower_levels<R: Threads + Sync, G: Gate + Sync, L: Ledger>(
     rounds: &Rounds<R, G>,
     th: &Thresholds,
     adj: &mut LevelAdj,

@@ -2,9 +2,7 @@
 
 ghost use Rattle.std.specs.Prelude.{◌≡◌, ◌<◌};
 ghost use Rattle.std.specs.Bool.{OnFalse};
-ghost use Rattle.kc_levels.specs.LevelList.{MeetsLower};
-ghost use Rattle.kc_delete.specs.private.Capped.{profile_of, graph_of, levels_of};
-ghost use Rattle.kc_delete.specs.private.Settling.{is_short};
+ghost use Rattle.kc_delete.specs.private.Capped.{is_short_in, MeetsLowerIn};
 
 use crate::capped::Capped;
 use kc_rounds::RoundTest;
@@ -12,8 +10,8 @@ use kc_rounds::RoundTest;
 /// Returns whether v has too few neighbours to stand on its level, by its kept count.
 pub fn is_short(capped: Capped<'_>, v: u32) -> bool
     requires { v < capped.adj.now.graph.vertices }
-    ensures value { result ≡ is_short (profile_of capped.entry) (graph_of capped.entry) (levels_of capped.entry) v }
-    ensures meets { OnFalse result (MeetsLower (profile_of capped.entry) (graph_of capped.entry) (levels_of capped.entry) v) }
+    ensures value { result ≡ is_short_in capped.entry v }
+    ensures meets { OnFalse result (MeetsLowerIn capped.entry v) }
 {
     let level = capped.adj.level(v);
     level > 0 && capped.adj.at_least_below(v) < capped.th.low(capped.th.group(level - 1))
@@ -31,7 +29,7 @@ pub struct Short<'a> {
 impl RoundTest for Short<'_> {
     ghost use Rattle.std.specs.Prelude.{◌&&◌, false, length, slice_index_or};
 
-    ghost keeps = { λ test v. slice_index_or test.marks.now.items v false && is_short (profile_of test.capped) (graph_of test.capped) (levels_of test.capped) v };
+    ghost keeps = { λ test v. slice_index_or test.marks.now.items v false && is_short_in test.capped v };
 
     ghost may_ask = { λ test v. (v < length test.marks.now.items) × (v < test.capped.adj.now.graph.vertices) };
 

@@ -2,8 +2,8 @@
 
 ghost use Rattle.std.specs.Prelude.{◌≡◌, ℕ, ◌<◌, ◌≤◌, ◌-◌, ◌⊎◌, ◌&&◌, ◌||◌, List, Bool, true, false, not, [], All, IfOk, IfSome, IfNone, OnOk, OnErr, length, replicate, slice_index_or, slice_set};
 ghost use Rattle.kc_graph.specs.Numbers.{has_number};
-ghost use Rattle.kc_delete.specs.private.Capped.{profile_of, graph_of, levels_of};
-ghost use Rattle.kc_delete.specs.private.Waiting.{AreFiled, IsSifted, IsTaken};
+ghost use Rattle.kc_delete.specs.private.Capped.{IsSiftedIn, IsTakenIn};
+ghost use Rattle.kc_delete.specs.private.Waiting.{AreFiled};
 
 use crate::capped::Capped;
 use crate::short::Short;
@@ -150,8 +150,8 @@ impl Waiting {
         capped: Capped<'_>,
     ) -> Result<Option<u32>, AllocError>
         requires { length self.old ≡ capped.adj.now.graph.vertices }
-        ensures some { IfOk result (λ next. IfSome next (IsTaken (profile_of capped.entry) (graph_of capped.entry) (levels_of capped.entry) self.old self.new)) }
-        ensures none { IfOk result (λ next. IfNone next (IsSifted (profile_of capped.entry) (graph_of capped.entry) (levels_of capped.entry) self.old self.new)) }
+        ensures some { IfOk result (λ next. IfSome next (IsTakenIn capped.entry self.old self.new)) }
+        ensures none { IfOk result (λ next. IfNone next (IsSiftedIn capped.entry self.old self.new)) }
         ensures nobody { IfOk result (λ next. IfNone next ((v : ℕ) → slice_index_or self.new v false ≡ false)) }
     {
         loop {

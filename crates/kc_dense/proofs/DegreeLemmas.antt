@@ -3,6 +3,7 @@ use Rattle.std.proofs.Common.{ℕ, suc, ◌+◌, ◌*◌, ◌≤◌, ◌≡◌, 
 use Rattle.std.specs.Prelude.{count_by, sum_by}
 use Rattle.std.proofs.lemmas.Bool.{cases_eq, eq-eqb, ne_eqb}
 use Rattle.std.proofs.lemmas.List.Sums.{sum_by-cons}
+use Rattle.std.proofs.lemmas.Bool.Decides.{nat_tests}
 use Rattle.kc_graph.specs.Numbers.{has_number}
 use Rattle.kc_graph.specs.Shape.{GraphShape, Pair, EdgesFrom, IsGraph, neighbours_of}
 use Rattle.kc_graph.proofs.lemmas.Counts.{count_by-cons}
@@ -38,11 +39,7 @@ degree_without g s t v u graph is =
 
 pub edges_agree : (g : GraphShape) (s t : ℕ → Bool) → ((u : ℕ) → s u ≡ t u) → edges_within g s ≡ edges_within g t
 unfolding edges_within
-edges_agree g s t same = agree g.edges
-  where
-    agree : (es : List Pair) → count_by (λ (e : Pair). s e.0 && s e.1) es ≡ count_by (λ (e : Pair). t e.0 && t e.1) es
-    agree [] = refl
-    agree (e ∷ es) = rw (count_by-cons (λ (f : Pair). s f.0 && s f.1) e es, count_by-cons (λ (f : Pair). t f.0 && t f.1) e es, same e.0, same e.1, agree es) refl
+edges_agree g s t same = grind (arith, nat_tests)
 
 pub edges_none : (g : GraphShape) (s : ℕ → Bool) → ((u : ℕ) → s u ≡ false) → edges_within g s ≡ 0
 unfolding edges_within

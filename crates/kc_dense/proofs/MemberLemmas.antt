@@ -1,10 +1,12 @@
 -- The vertices of the densest suffix, in ascending order.
-use Rattle.std.proofs.Common.{ℕ, suc, ◌+◌, ◌≤◌, ◌<◌, ◌≡◌, ◌≢◌, List, [], ◌∷◌, length, get_or, eqb, refl, ap, sym, ◌∙◌, arith, subst, Bool, true, false, cond, inl, inr}
+use Rattle.std.proofs.Common.{ℕ, suc, ◌+◌, ◌≤◌, ◌<◌, ◌≡◌, ◌≢◌, List, [], ◌∷◌, length, get_or, eqb, refl, sym, ◌∙◌, arith, subst, Bool, true, false, cond, inl, inr}
 use Rattle.std.specs.Prelude.{count_by}
 use Rattle.std.specs.List.Sorted.{IsPermutation, IsNonDecreasing}
 use Rattle.std.proofs.lemmas.Bool.{cases_eq, true≢false, eq-eqb, ne_eqb}
 use Rattle.std.proofs.lemmas.List.{length-append}
 use Rattle.std.proofs.lemmas.List.Sorted.{sum_by-IsPermutation}
+use Rattle.std.proofs.lemmas.Bool.Decides.{nat_tests}
+use Rattle.std.proofs.lemmas.Grind.{common_steps}
 use Rattle.kc_graph.specs.Numbers.{has_number, RisesFrom}
 use Rattle.kc_graph.specs.Shape.{GraphShape}
 use Rattle.kc_graph.proofs.lemmas.Counts.{count_by-cons}
@@ -18,13 +20,7 @@ use Rattle.kc_dense.proofs.PeelingLemmas.{peeling_length}
 -- ascending numbers, each of which stands once, rise
 rises_from : (low : ℕ) (xs : List ℕ) → IsNonDecreasing xs → IsOnce xs → (0 < length xs → low ≤ get_or xs 0 0) → RisesFrom low xs
 rises_from low [] sorted once from = tt
-rises_from low (x ∷ xs) sorted once from = (
-  from (omega arith),
-  rises_from (suc x) xs (λ i j d le lt. sorted (suc i) (suc j) d (omega (arith, le)) (omega (arith, lt))) once.1 (λ some.
-      let le : x ≤ get_or xs 0 0 = sorted 0 1 0 (omega arith) (omega (arith, some)) in
-      let ne : x ≢ get_or xs 0 0 = λ e. true≢false (sym (has_number_at x xs 0 some (sym e)) ∙ once.0) in
-      omega (arith, le, ne)),
-)
+rises_from low (x ∷ xs) sorted once from = grind (arith, nat_tests, rises_from (suc x) xs (λ i j d le lt. sorted (suc i) (suc j) d (omega (arith, le)) (omega (arith, lt))) once.1 (λ some. let le : x ≤ get_or xs 0 0 = sorted 0 1 0 (omega arith) (omega (arith, some)) in let ne : x ≢ get_or xs 0 0 = λ e. true≢false (sym (has_number_at x xs 0 some (sym e)) ∙ once.0) in omega (arith, le, ne)), true≢false, has_number_at, once.1, once.0)
 
 -- how often a number stands in a list
 abbrev times : ℕ → List ℕ → ℕ
@@ -32,12 +28,7 @@ times v xs = count_by (λ w. eqb w v) xs
 
 times_once : (v : ℕ) (xs : List ℕ) → IsOnce xs → times v xs ≤ 1
 times_once v [] once = omega arith
-times_once v (x ∷ xs) once = elim (cases_eq x v) [
-  | inl e ↦
-      let none : count_by (λ w. eqb w v) xs ≡ 0 = count_by-none (λ w. eqb w v) xs (λ w h. ne_eqb w v (λ f. true≢false (sym h ∙ ap (λ u. has_number u xs) (f ∙ sym e) ∙ once.0))) in
-      rw (count_by-cons (λ w. eqb w v) x xs, eq-eqb x v e, none) (omega arith)
-  | inr ne ↦ rw (count_by-cons (λ w. eqb w v) x xs, ne_eqb x v ne) (omega (arith, times_once v xs once.1))
-]
+times_once v (x ∷ xs) once = grind (arith, nat_tests, common_steps, times_once v xs once.1, count_by-none, ne_eqb, true≢false, count_by-cons, eq-eqb, once.0, once.1)
 
 times_some : (v : ℕ) (xs : List ℕ) → has_number v xs ≡ true → 1 ≤ times v xs
 times_some v [] e = cc
@@ -77,7 +68,4 @@ members_dense g order part members peeling densest moved sorted =
 
 -- they are no more than the vertices
 pub members_few : (g : GraphShape) (members : List ℕ) → IsDensePart g members → length members ≤ g.vertices
-members_few g members is =
-    let suffix = is.densest.suffix in
-    let once = once_suffix suffix.front is.part (subst IsOnce suffix.is is.peeling.vertices.once) in
-    omega (arith, same_length members is.part (once_from_rising 0 members is.ascending) once is.same, peeling_length g is.order is.peeling, ap length suffix.is, length-append suffix.front is.part)
+members_few g members is = grind (arith, nat_tests, once_suffix, same_length, once_from_rising, peeling_length, length-append, is.densest.suffix, is.part, is.peeling.vertices.once, is.ascending, is.same, is.order, is.peeling)

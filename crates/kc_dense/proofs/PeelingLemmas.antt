@@ -3,6 +3,7 @@ use Rattle.std.proofs.Common.{ℕ, suc, zero, ◌+◌, ◌*◌, ◌≤◌, ◌<�
 use Rattle.std.proofs.lemmas.Bool.{cases_eq, cases_lt, cases_Bool, true≢false, ltb-true, lt-ltb, eq-eqb, ne_eqb}
 use Rattle.std.proofs.lemmas.Nat.{mul-le}
 use Rattle.std.proofs.lemmas.List.{length-append, drop_at}
+use Rattle.std.proofs.lemmas.Bool.Decides.{nat_tests}
 use Rattle.kc_graph.specs.Numbers.{has_number, RisesFrom}
 use Rattle.kc_graph.specs.private.Numbers.{without, put}
 use Rattle.kc_graph.specs.Shape.{GraphShape}
@@ -23,9 +24,7 @@ next_agree g s t v same is = record {
 
 -- a set has no two
 next_is_one : (g : GraphShape) (s : ℕ → Bool) (v w : ℕ) → IsNext g s v → IsNext g s w → v ≡ w
-next_is_one g s v w one other =
-    let same : degree_within g s v ≡ degree_within g s w = omega (arith, one.least w other.holds, other.least v one.holds) in
-    omega (arith, one.first w other.holds (sym same), other.first v one.holds same)
+next_is_one g s v w one other = grind (arith, nat_tests)
 
 peeled_is_one : (g : GraphShape) (us vs : List ℕ) → IsOnce us → IsOnce vs → ((u : ℕ) → has_number u us ≡ has_number u vs) → IsPeeled g us → IsPeeled g vs → us ≡ vs
 peeled_is_one g [] [] once_u once_v same one other = refl

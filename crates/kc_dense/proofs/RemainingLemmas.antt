@@ -3,6 +3,7 @@ use Rattle.std.proofs.Common.{ℕ, suc, zero, ◌+◌, ◌-◌, ◌≤◌, ◌<�
 use Rattle.std.proofs.Math.ListN.{length-set}
 use Rattle.std.proofs.lemmas.Bool.{cases_eq, cases_lt, cases_Bool, true≢false, and_parts, ltb-true, ltb-false, lt-ltb, le-ltb, eq-eqb, ne_eqb}
 use Rattle.std.proofs.lemmas.List.{get_or-set_same, get_or-set_other, get_or_default, get_or_past}
+use Rattle.std.proofs.lemmas.Bool.Decides.{nat_tests}
 use Rattle.kc_graph.specs.declared.limits.TheConstants.{MAX_VERTICES}
 use Rattle.kc_graph.specs.Numbers.{has_number, RisesFrom}
 use Rattle.kc_graph.specs.Shape.{GraphShape, IsGraph, neighbours_of}
@@ -18,10 +19,7 @@ use Rattle.kc_dense.proofs.DegreeLemmas.{IsWithout, degree_agree, degree_without
 
 -- a vertex that is left is one of those that the list is of
 pub left_inside : (degrees : List ℕ) (u : ℕ) → is_left degrees u ≡ true → u < length degrees
-left_inside degrees u left = elim (cases_lt u (length degrees)) [
-  | inl lt ↦ lt
-  | inr ge ↦ absurd (true≢false (sym left ∙ ap (λ d. ltb d TAKEN) (get_or_past degrees u TAKEN ge)))
-]
+left_inside degrees u left = grind (arith, nat_tests, true≢false, get_or_past)
 
 -- all degrees are those among all vertices, at first
 pub remaining_first : (g : GraphShape) (degrees : List ℕ) → IsGraph g → g.vertices ≤ MAX_VERTICES → length degrees ≡ g.vertices →
@@ -50,25 +48,7 @@ remaining_first g degrees graph fits sized values small = (
 
 -- the least degree is that of the next vertex
 pub next_least : (g : GraphShape) (degrees : List ℕ) (v : ℕ) → AreRemaining g degrees → ((u : ℕ) × (is_left degrees u ≡ true)) → IsFirstLeast degrees v → IsNext g (is_left degrees) v × (get_or degrees v 0 ≡ degree_within g (is_left degrees) v)
-next_least g degrees v is some least = (
-  record {
-    holds = left;
-    least = λ u e. omega (arith, sym (is.counts v left), sym (is.counts u e), at v least.inside, at u (left_inside degrees u e), least.least u (left_inside degrees u e));
-    first = λ u e equal. elim (cases_lt u v) [
-      | inl lt ↦ absurd (omega (arith, sym (is.counts v left), sym (is.counts u e), at v least.inside, at u (left_inside degrees u e), least.first u lt, equal))
-      | inr ge ↦ ge
-    ];
-  },
-  sym (at v least.inside) ∙ is.counts v left,
-)
-  where
-    at : (u : ℕ) → u < length degrees → get_or degrees u TAKEN ≡ get_or degrees u 0
-    at u lt = get_or_default degrees u TAKEN 0 lt
-
-    left : is_left degrees v ≡ true
-    left =
-        let inside = left_inside degrees some.0 some.1 in
-        lt-ltb (get_or degrees v TAKEN) TAKEN (omega (arith, at v least.inside, at some.0 inside, least.least some.0 inside, ltb-true (get_or degrees some.0 TAKEN) TAKEN some.1))
+next_least g degrees v is some least = grind (arith, nat_tests, left_inside, get_or_default, lt-ltb, ltb-true, is.counts, least.inside, least.least, least.first, some.0, some.1)
 
 -- the degrees after some neighbours of the vertex v, which was taken, have each lost one
 pub record AreFalling (before : List ℕ) (v : ℕ) (seen : List ℕ) (degrees : List ℕ) : Type 0 where
@@ -165,6 +145,4 @@ falling_last g before v degrees graph remaining left is = (
 pub rising_new : (low : ℕ) (xs : List ℕ) (i : ℕ) → RisesFrom low xs → i < length xs → has_number (get_or xs i 0) (take i xs) ≡ false
 rising_new low [] i rises lt = absurd (omega (arith, lt))
 rising_new low (x ∷ xs) zero rises lt = refl
-rising_new low (x ∷ xs) (suc i) rises lt =
-    let above : suc x ≤ get_or xs i 0 = rises_at_least (suc x) xs i rises.1 (omega (arith, lt)) in
-    has_other (get_or xs i 0) x (take i xs) (omega (arith, above)) ∙ rising_new (suc x) xs i rises.1 (omega (arith, lt))
+rising_new low (x ∷ xs) (suc i) rises lt = grind (arith, nat_tests, rising_new (suc x) xs i rises.1 (omega (arith, lt)), rises_at_least, has_other, rises.1)

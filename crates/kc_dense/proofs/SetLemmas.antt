@@ -1,11 +1,11 @@
 -- Lists whose numbers each stand once, and the sets of their numbers.
-use Rattle.std.proofs.Common.{ℕ, suc, zero, ◌+◌, ◌≡◌, ◌≢◌, inl, inr, Bool, true, false, not, ◌&&◌, ◌||◌, cond, eqb, ltb, List, [], ◌∷◌, length, get_or, refl, ap, sym, ◌∙◌, arith, subst}
+use Rattle.std.proofs.Common.{ℕ, suc, zero, ◌+◌, ◌≡◌, ◌≢◌, inl, inr, Bool, true, false, ◌||◌, cond, eqb, ltb, List, [], ◌∷◌, length, get_or, refl, ap, sym, ◌∙◌, arith}
 use Rattle.std.specs.Prelude.{count_by, All}
 use Rattle.std.specs.List.{list_any}
 use Rattle.std.specs.List.Sorted.{IsPermutation}
 use Rattle.std.proofs.lemmas.Bool.{cases_eq, eq-eqb, ne_eqb}
 use Rattle.std.proofs.lemmas.Bool.Decides.{nat_tests}
-use Rattle.std.proofs.lemmas.List.Elements.{All-get_or, All-from_get_or}
+use Rattle.std.proofs.lemmas.List.Elements.{All-from_get_or}
 use Rattle.std.proofs.lemmas.List.Sorted.{list_any-IsPermutation}
 use Rattle.kc_graph.specs.Numbers.{has_number, RisesFrom}
 use Rattle.kc_graph.specs.private.Numbers.{without}
@@ -25,10 +25,7 @@ has_rest u x xs e = grind (arith, e)
 
 -- where two lists each have their first number once, and have the same numbers, and the same first one
 pub same_rest : (x : ℕ) (xs ys : List ℕ) → IsOnce (x ∷ xs) → IsOnce (x ∷ ys) → ((u : ℕ) → has_number u (x ∷ xs) ≡ has_number u (x ∷ ys)) → (u : ℕ) → has_number u xs ≡ has_number u ys
-same_rest x xs ys once_x once_y same u = elim (cases_eq u x) [
-  | inl e ↦ rw e (once_x.0 ∙ sym once_y.0)
-  | inr ne ↦ sym (has_other u x xs ne) ∙ same u ∙ has_other u x ys ne
-]
+same_rest x xs ys once_x once_y same u = grind (arith, nat_tests)
 
 pub once_from_rising : (low : ℕ) (xs : List ℕ) → RisesFrom low xs → IsOnce xs
 once_from_rising low [] rises = tt
@@ -37,14 +34,7 @@ once_from_rising low (x ∷ xs) rises = (has_number_below (suc x) x xs rises.1 (
 -- a list without one of its numbers
 pub once_without : (v : ℕ) (xs : List ℕ) → IsOnce xs → IsOnce (without v xs)
 once_without v [] once = tt
-once_without v (x ∷ xs) once = step (eqb x v) (once_without v xs once.1)
-  where
-    step : (b : Bool) → IsOnce (without v xs) → IsOnce (cond (not b) (x ∷ without v xs) (without v xs))
-    step true later = later
-    step false later = (rw (has_number-without x v xs, once.0) (none (eqb v x)), later)
-      where
-        none : (b : Bool) → not b && false ≡ false
-        none b = grind arith
+once_without v (x ∷ xs) once = grind (arith, nat_tests, once_without v xs once.1, has_number-without, once.1, once.0)
 
 pub length-without : (v : ℕ) (xs : List ℕ) → IsOnce xs → has_number v xs ≡ true → length (without v xs) + 1 ≡ length xs
 length-without v [] once e = cc
@@ -60,8 +50,7 @@ length-without v (x ∷ xs) once e = elim (cases_eq x v) [
 -- how many of a list are in another list that it has whole
 pub count_by-agree : (p q : ℕ → Bool) (xs : List ℕ) → ((u : ℕ) → has_number u xs ≡ true → p u ≡ q u) → count_by p xs ≡ count_by q xs
 count_by-agree p q [] same = refl
-count_by-agree p q (x ∷ xs) same =
-    rw (count_by-cons p x xs, count_by-cons q x xs, same x (has_first x xs), count_by-agree p q xs (λ u e. same u (has_rest u x xs e))) refl
+count_by-agree p q (x ∷ xs) same = grind (arith, nat_tests, count_by-agree p q xs (λ u e. same u (has_rest u x xs e)), count_by-cons, has_first, has_rest)
 
 pub count_by-none : (p : ℕ → Bool) (xs : List ℕ) → ((u : ℕ) → has_number u xs ≡ true → p u ≡ false) → count_by p xs ≡ 0
 count_by-none p [] none = refl
@@ -70,14 +59,7 @@ count_by-none p (x ∷ xs) none = rw (count_by-cons p x xs, none x (has_first x 
 -- one number more passes
 pub count_by-one_more : (p q : ℕ → Bool) (v : ℕ) (xs : List ℕ) → IsOnce xs → ((u : ℕ) → u ≢ v → p u ≡ q u) → p v ≡ true → q v ≡ false → count_by p xs ≡ count_by q xs + cond (has_number v xs) 1 0
 count_by-one_more p q v [] once same before after = refl
-count_by-one_more p q v (x ∷ xs) once same before after =
-    let later : count_by p xs ≡ count_by q xs + cond (has_number v xs) 1 0 = count_by-one_more p q v xs once.1 same before after in
-    elim (cases_eq x v) [
-      | inl e ↦
-          let gone : has_number v xs ≡ false = rw e at once.0 in
-          rw (count_by-cons p x xs, count_by-cons q x xs, e, before, after, eq-eqb v v refl) (omega (arith, rw gone at later))
-      | inr ne ↦ rw (count_by-cons p x xs, count_by-cons q x xs, same x ne, ne_eqb x v ne) (omega (arith, later))
-    ]
+count_by-one_more p q v (x ∷ xs) once same before after = grind (arith, nat_tests, count_by-one_more p q v xs once.1 same before after, count_by-cons, eq-eqb, ne_eqb, once.1, once.0)
 
 pub count_by-members : (xs ys : List ℕ) → IsOnce xs → IsOnce ys → ((u : ℕ) → has_number u xs ≡ true → has_number u ys ≡ true) → count_by (members_of xs) ys ≡ length xs
 count_by-members [] ys once_x once_y inside = count_by-none (members_of []) ys (λ u e. refl)
@@ -122,9 +104,7 @@ has_number-permutation u xs ys moved = any xs ∙ list_any-IsPermutation (λ y. 
 
 -- what All says of a number of the list
 pub all_at : (P : ℕ → Type 0) (xs : List ℕ) (u : ℕ) → All P xs → has_number u xs ≡ true → P u
-all_at P xs u all e =
-    let at = has_number_index u xs e in
-    subst P at.2 (All-get_or P xs at.0 0 at.1 all)
+all_at P xs u all e = grind (arith, nat_tests, has_number_index)
 
 pub all_from : (P : ℕ → Type 0) (xs : List ℕ) → ((u : ℕ) → has_number u xs ≡ true → P u) → All P xs
 all_from P xs each = All-from_get_or P xs 0 (λ i h. each (get_or xs i 0) (has_number_at (get_or xs i 0) xs i h refl))

@@ -1,11 +1,11 @@
 -- What a number written at a node does to a tournament tree, and where the way down from the root leads.
-use Rattle.std.proofs.Common.{ℕ, zero, suc, ◌+◌, ◌-◌, ◌*◌, ◌/◌, ◌^◌, ◌≤◌, ◌<◌, ◌≡◌, ◌≢◌, inl, inr, List, [], ◌∷◌, ◌++◌, length, get_or, set, take, drop, replicate, min, refl, ap, sym, ◌∙◌, arith, subst}
-use Rattle.std.proofs.Math.ListN.{length-set}
+use Rattle.std.proofs.Common.{ℕ, zero, suc, ◌+◌, ◌-◌, ◌*◌, ◌/◌, ◌^◌, ◌≤◌, ◌<◌, ◌≡◌, ◌≢◌, inl, inr, List, [], ◌∷◌, ◌++◌, length, get_or, set, take, drop, replicate, min, refl, ap, sym, ◌∙◌, arith}
 use Rattle.std.proofs.Math.Nat.{pow-le-pow_right, pow-suc}
 use Rattle.std.proofs.lemmas.Bool.{cases_lt, cases_eq}
 use Rattle.std.proofs.lemmas.List.{get_or-set_same, get_or-set_other, get_or-take, get_or-drop, length-take-le, length-drop, length-append, length-replicate, take_all, append_assoc, drop_at, take_at, get_or_append_left, get_or-append_right, get_or-replicate}
 use Rattle.std.proofs.lemmas.Nat.{pow_pos}
 use Rattle.std.specs.Int.{IsPowerOfTwo}
+use Rattle.std.proofs.lemmas.Bool.Decides.{nat_tests}
 use Rattle.kc_dense.specs.declared.tournament.TheConstants.{GREATEST}
 use Rattle.kc_dense.specs.private.Tournaments.{IsPlayed, IsTree, IsFirstLeastWithin, IsFirstLeast}
 
@@ -13,45 +13,13 @@ use Rattle.kc_dense.specs.private.Tournaments.{IsPlayed, IsTree, IsFirstLeastWit
 abbrev pub IsPlayedAt : List ℕ → ℕ → Type 0
 IsPlayedAt nodes k = 1 ≤ k → 2 * k + 1 < length nodes → get_or nodes k 0 ≡ min (get_or nodes (2 * k) 0) (get_or nodes (2 * k + 1) 0)
 
-pub played_same : (nodes : List ℕ) (node v : ℕ) → v ≡ min (get_or nodes (2 * node) 0) (get_or nodes (2 * node + 1) 0) → IsPlayedAt (set nodes node v) node
-played_same nodes node v is some room =
-    let inside : node < length nodes = omega (arith, length-set nodes node v) in
-    rw (get_or-set_same nodes node v 0 inside, get_or-set_other nodes node (2 * node) v 0 (omega arith), get_or-set_other nodes node (2 * node + 1) v 0 (omega arith)) is
-
-pub played_other : (nodes : List ℕ) (node v k : ℕ) → k ≢ node → 2 * k ≢ node → 2 * k + 1 ≢ node → IsPlayedAt nodes k → IsPlayedAt (set nodes node v) k
-played_other nodes node v k ne left right is some room =
-    rw (get_or-set_other nodes node k v 0 ne, get_or-set_other nodes node (2 * k) v 0 left, get_or-set_other nodes node (2 * k + 1) v 0 right) (is some (omega (arith, length-set nodes node v)))
-
 -- all nodes from a place on are played
 abbrev pub ArePlayedFrom : ℕ → List ℕ → Type 0
 ArePlayedFrom from nodes = (k : ℕ) → from ≤ k → IsPlayedAt nodes k
 
-pub played_more : (nodes : List ℕ) (from node v : ℕ) → node + 1 ≡ from → v ≡ min (get_or nodes (2 * node) 0) (get_or nodes (2 * node + 1) 0) → ArePlayedFrom from nodes → ArePlayedFrom node (set nodes node v)
-played_more nodes from node v e is played k le some room = elim (cases_eq k node) [
-  | inl same ↦ subst (λ (j : ℕ). IsPlayedAt (set nodes node v) j) (sym same) (played_same nodes node v is) some room
-  | inr ne ↦ played_other nodes node v k ne (omega (arith, ne)) (omega (arith, ne)) (played k (omega (arith, ne))) some room
-]
-
 -- all nodes are played but the parent of one
 abbrev pub ArePlayedBut : ℕ → List ℕ → Type 0
 ArePlayedBut node nodes = (k : ℕ) → k ≢ node / 2 → IsPlayedAt nodes k
-
-pub played_but_first : (nodes : List ℕ) (node v : ℕ) → length nodes ≤ 2 * node → IsPlayed nodes → ArePlayedBut node (set nodes node v)
-played_but_first nodes node v leaf played k ne some room =
-    let short : 2 * k + 1 < length nodes = omega (arith, length-set nodes node v) in
-    played_other nodes node v k (omega arith) (omega (arith, ne)) (omega (arith, ne)) (played k) some room
-
-pub played_but_more : (nodes : List ℕ) (below node v : ℕ) → node ≡ below / 2 → v ≡ min (get_or nodes (2 * node) 0) (get_or nodes (2 * node + 1) 0) → ArePlayedBut below nodes → ArePlayedBut node (set nodes node v)
-played_but_more nodes below node v e is played k ne some room = elim (cases_eq k node) [
-  | inl same ↦ subst (λ (j : ℕ). IsPlayedAt (set nodes node v) j) (sym same) (played_same nodes node v is) some room
-  | inr differs ↦ played_other nodes node v k differs (omega (arith, ne)) (omega (arith, ne)) (played k (omega (arith, differs, e))) some room
-]
-
-pub played_all : (nodes : List ℕ) (below node : ℕ) → node ≡ below / 2 → get_or nodes node 0 ≡ min (get_or nodes (2 * node) 0) (get_or nodes (2 * node + 1) 0) → ArePlayedBut below nodes → IsPlayed nodes
-played_all nodes below node e is played k some room = elim (cases_eq k node) [
-  | inl same ↦ subst (λ (j : ℕ). get_or nodes j 0 ≡ min (get_or nodes (2 * j) 0) (get_or nodes (2 * j + 1) 0)) (sym same) is
-  | inr differs ↦ played k (omega (arith, differs, e)) some room
-]
 
 -- the way down from the root: a node that is first and least among those as deep as it
 pub record IsDescent (width : ℕ) (nodes : List ℕ) (node : ℕ) : Type 0 where
@@ -82,10 +50,7 @@ descent_first width nodes power = record {
 
 -- a node is as small as each of its children
 child_le : (nodes : List ℕ) (h j : ℕ) → IsPlayed nodes → 1 ≤ h → 2 * h + 1 < length nodes → h ≡ j / 2 → get_or nodes h 0 ≤ get_or nodes j 0
-child_le nodes h j played some room is = elim (cases_eq j (2 * h)) [
-  | inl e ↦ rw e (omega (arith, played h some room))
-  | inr ne ↦ let e : j ≡ 2 * h + 1 = omega (arith, ne) in rw e (omega (arith, played h some room))
-]
+child_le nodes h j played some room is = grind (arith, nat_tests)
 
 -- one step down
 pub descent_more : (len width : ℕ) (nodes : List ℕ) (node next : ℕ) → IsTree len width nodes → IsDescent width nodes node → node < width →
@@ -165,17 +130,7 @@ pub new_leaves : (width k m most : ℕ) (numbers none first second filled : List
     none ≡ [] → k ≡ 0 → first ≡ take width none ++ replicate (width - k) 0 → second ≡ first ++ numbers → m ≡ width + length numbers →
     filled ≡ take (2 * width) second ++ replicate (2 * width - m) most →
     drop width filled ≡ numbers ++ replicate (width - length numbers) most
-new_leaves width k m most numbers none first second filled few empty zero_k is_first is_second is_m is =
-    let front : first ≡ replicate width 0 = is_first ∙ ap (λ (xs : List ℕ). take width xs ++ replicate (width - k) 0) empty ∙ ap (λ (xs : List ℕ). xs ++ replicate (width - k) 0) (take_all width [] (omega arith)) ∙ ap (λ n. replicate n 0) (let e : width - k ≡ width = omega arith in e) in
-    let front_len : length first ≡ width = ap length front ∙ length-replicate width 0 in
-    let sized : length second ≡ width + length numbers = ap length is_second ∙ length-append first numbers ∙ ap (λ n. n + length numbers) front_len in
-    let rest : 2 * width - m ≡ width - length numbers = omega arith in
-    let all : take (2 * width) second ≡ first ++ numbers = take_all (2 * width) second (omega arith) ∙ is_second in
-    let whole : filled ≡ first ++ (numbers ++ replicate (width - length numbers) most) =
-    is ∙ ap (λ (xs : List ℕ). xs ++ replicate (2 * width - m) most) all
-    ∙ ap (λ n. (first ++ numbers) ++ replicate n most) rest ∙ append_assoc first numbers (replicate (width - length numbers) most)
-    in
-    rw whole (drop_at first (numbers ++ replicate (width - length numbers) most) width front_len)
+new_leaves width k m most numbers none first second filled few empty zero_k is_first is_second is_m is = grind (arith, nat_tests, take_all, length-replicate, length-append, append_assoc, drop_at)
 
 pub tree_new : (width : ℕ) (numbers nodes : List ℕ) → IsPowerOfTwo width → length numbers ≤ width → ((i : ℕ) → i < length numbers → get_or numbers i 0 ≤ GREATEST) →
     length nodes ≡ 2 * width → IsPlayed nodes → drop width nodes ≡ numbers ++ replicate (width - length numbers) GREATEST → IsTree (length numbers) width nodes

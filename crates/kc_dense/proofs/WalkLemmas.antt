@@ -68,14 +68,18 @@ best_more g n i best next whole lt at edges is from = go (ltb (best.edges * (n -
           strictly = is.strictly;
         }
 
+-- the vertices that are left after i were taken, each once
+pub record AreListed (g : GraphShape) (i : ℕ) (degrees vertices : List ℕ) : Type 0 where
+  pub once : IsOnce vertices
+  pub same : (u : ℕ) → has_number u vertices ≡ is_left degrees u
+  pub number : length vertices + i ≡ g.vertices
+
 -- after i vertices were taken, and the suffixes that begin before place j were compared
 pub record IsWalk (g : GraphShape) (i j : ℕ) (degrees order : List ℕ) (edges : ℕ) (best : Suffix) : Type 0 where
   pub remaining : AreRemaining g degrees
   pub counted : length order ≡ i
   pub left : List ℕ
-  pub once : IsOnce left
-  pub same : (u : ℕ) → has_number u left ≡ is_left degrees u
-  pub number : length left + i ≡ g.vertices
+  pub listed : AreListed g i degrees left
   pub within : edges ≡ edges_within g (is_left degrees)
   pub from : best.first ≤ j
   pub leads : (rest : List ℕ) → IsOnce rest → ((u : ℕ) → has_number u rest ≡ is_left degrees u) → IsPeeled g rest → IsPeelingList g (order ++ rest) × IsBest g g.vertices j best (order ++ rest)
@@ -97,9 +101,11 @@ walk_first g degrees edges graph some remaining all counted = record {
   remaining = remaining;
   counted = refl;
   left = all_below g.vertices;
-  once = once_all_below g.vertices;
-  same = λ u. has_number-all_below u g.vertices ∙ sym (all u);
-  number = omega (arith, length-all_below g.vertices);
+  listed = record {
+    once = once_all_below g.vertices;
+    same = λ u. has_number-all_below u g.vertices ∙ sym (all u);
+    number = omega (arith, length-all_below g.vertices);
+  };
   within = within;
   from = omega arith;
   leads = λ rest once same peeled. (
@@ -122,7 +128,7 @@ walk_first g degrees edges graph some remaining all counted = record {
 
 -- a vertex is left
 pub walk_some : (g : GraphShape) (i j : ℕ) (degrees order : List ℕ) (edges : ℕ) (best : Suffix) → IsWalk g i j degrees order edges best → i < g.vertices → (u : ℕ) × (is_left degrees u ≡ true)
-walk_some g i j degrees order edges best is lt = go is.left is.number is.same
+walk_some g i j degrees order edges best is lt = go is.left is.listed.number is.listed.same
   where
     go : (left : List ℕ) → length left + i ≡ g.vertices → ((u : ℕ) → has_number u left ≡ is_left degrees u) → (u : ℕ) × (is_left degrees u ≡ true)
     go [] number same = absurd (omega (arith, number, lt))
@@ -134,9 +140,7 @@ walk_compared g i degrees order edges best next lt at edges_are is = record {
   remaining = is.remaining;
   counted = is.counted;
   left = is.left;
-  once = is.once;
-  same = is.same;
-  number = is.number;
+  listed = is.listed;
   within = is.within;
   from = low (ltb (best.edges * (g.vertices - next.first)) (next.edges * (g.vertices - best.first)));
   leads = λ rest once same peeled.
@@ -162,9 +166,11 @@ walk_taken g i j degrees after order edges best v graph is next others remaining
   remaining = remaining;
   counted = length-append order (v ∷ []) ∙ ap (λ m. m + 1) is.counted;
   left = without v is.left;
-  once = once_without v is.left is.once;
-  same = λ u. has_number-without u v is.left ∙ rest_same u ∙ sym (others u);
-  number = omega (arith, is.number, length-without v is.left is.once (is.same v ∙ next.holds));
+  listed = record {
+    once = once_without v is.left is.listed.once;
+    same = λ u. has_number-without u v is.left ∙ rest_same u ∙ sym (others u);
+    number = omega (arith, is.listed.number, length-without v is.left is.listed.once (is.listed.same v ∙ next.holds));
+  };
   within = omega (arith, walk_edges g i j degrees order edges best v graph is next.holds, edges_agree g (is_left after) (all_but v (is_left degrees)) others);
   from = is.from;
   leads = λ rest once same peeled.
@@ -180,14 +186,14 @@ walk_taken g i j degrees after order edges best v graph is next others remaining
     rest_same : (u : ℕ) → not (eqb v u) && has_number u is.left ≡ all_but v (is_left degrees) u
     rest_same u = elim (cases_eq u v) [
       | inl e ↦ rw (e, eq-eqb v v refl) refl
-      | inr ne ↦ rw (ne_eqb u v ne, ne_eqb v u (λ f. ne (sym f))) (is.same u)
+      | inr ne ↦ rw (ne_eqb u v ne, ne_eqb v u (λ f. ne (sym f))) (is.listed.same u)
     ]
 
 -- at the end
 pub walk_last : (g : GraphShape) (degrees order : List ℕ) (edges : ℕ) (best : Suffix) → IsWalk g g.vertices g.vertices degrees order edges best → IsPeelingList g order × IsBest g g.vertices g.vertices best order
 walk_last g degrees order edges best is =
-    let none : is.left ≡ [] = nil_from_length is.left (omega (arith, is.number)) in
-    rw (append-nil order) at (is.leads [] tt (λ u. ap (λ (xs : List ℕ). has_number u xs) (sym none) ∙ is.same u) tt)
+    let none : is.left ≡ [] = nil_from_length is.left (omega (arith, is.listed.number)) in
+    rw (append-nil order) at (is.leads [] tt (λ u. ap (λ (xs : List ℕ). has_number u xs) (sym none) ∙ is.listed.same u) tt)
 
 -- the best of all suffixes is the densest one
 pub best_densest : (g : GraphShape) (order : List ℕ) (best : Suffix) → IsPeelingList g order → IsBest g g.vertices g.vertices best order → IsDensestSuffix g (drop best.first order) order

@@ -28,7 +28,7 @@ pub fn densest(alloc: Global, graph: &Graph) -> Result<Dense, AllocError>
     ensures few { IfOk result (λ d. length d.members.items ≤ graph.now.vertices) }
     ensures factor { IfOk result (λ d. IsHalfAsDenseAsAny graph.now d.members.items) }
 {
-    // The contract of `vertices` says that the edges of the graph ascend.
+    // Evidence for the check: the edges of the graph ascend.
     let _ = graph.vertices();
     let peeled = peel(alloc, graph)?;
     let mut members = Vec::from_slice(alloc, &peeled.order[peeled.densest.first as usize..])?;

@@ -28,7 +28,7 @@ pub fn all_remaining(alloc: Global, graph: &Graph) -> Result<Tournament, AllocEr
     ensures remaining { IfOk result (AreRemaining graph.now) }
     ensures all { IfOk result (λ degrees. (u : ℕ) → is_left degrees u ≡ nat_lt u graph.now.vertices) }
 {
-    // The contract of `vertices` says that the edges of the graph ascend.
+    // Evidence for the check: the edges of the graph ascend.
     let _ = graph.vertices();
     Tournament::new(alloc, &degrees(alloc, graph)?)
 }

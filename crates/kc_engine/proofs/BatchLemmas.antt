@@ -1,8 +1,8 @@
 -- One batch: there is a state after it, there is only one, and it keeps what is true of each state.
-use Rattle.std.proofs.Common.{ℕ, ◌≡◌, ◌≤◌, ◌+◌, ◌-◌, Bool, true, false, List, [], ◌∷◌, nat_lt, length, replicate, refl, sym, ap, ◌∙◌, suc, zero, inl, inr, arith}
-use Rattle.std.specs.Prelude.{Some, None, if◌then◌else◌, ◌&&◌, ◌⊎◌, Result, Ok, Err}
+use Rattle.std.proofs.Common.{ℕ, ◌≡◌, ◌≤◌, ◌+◌, ◌-◌, Bool, true, false, List, [], ◌∷◌, nat_lt, length, replicate, refl, sym, ap, ◌∙◌, suc, zero, arith}
+use Rattle.std.specs.Prelude.{Some, None, if◌then◌else◌, ◌&&◌, Result, Ok, Err}
 use Rattle.std.specs.Result.{MatchResult, is_ok}
-use Rattle.std.proofs.lemmas.Bool.{false≢true}
+use Rattle.std.proofs.lemmas.Bool.{false≢true, and_cases}
 use Rattle.std.proofs.lemmas.Bool.Decides.{nat_tests}
 use Rattle.std.proofs.lemmas.List.{length-replicate, get_or-replicate}
 use Rattle.kc_graph.specs.declared.cleaning.Cleaned.{Cleaned}
@@ -19,7 +19,6 @@ use Rattle.kc_levels.proofs.lemmas.Lowering.{lowered_is_one_list}
 use Rattle.kc_levels.proofs.lemmas.Both.{insertion_keeps_both, deletion_keeps_both}
 use Rattle.kc_history.specs.declared.limits.TheConstants.{MAX_PHASE}
 use Rattle.kc_engine.specs.declared.faults.EngineFault.{EngineFault}
-use Rattle.kc_engine.specs.declared.faults.EngineFault.TheVariants.{EdgeLimit, PhaseLimit}
 use Rattle.kc_engine.specs.States.{State, IsSound}
 use Rattle.kc_engine.specs.Batches.{IsCleaning, phases_of, edges_after, phases_after, refusal_of, AreLoweredIn, AreRaisedIn, graph_after_batch, AreLevelsAfter, IsAfterBatch}
 use Rattle.kc_engine.specs.Laws.{StartIsSound, BatchHasOneState, BatchKeepsSound, BatchKeepsBoth}
@@ -64,23 +63,11 @@ none_chosen true b x y e = absurd cc
 none_chosen false true x y e = absurd cc
 none_chosen false false x y e = (refl, refl)
 
-either_false : (a b : Bool) → (a && b) ≡ false → (a ≡ false) ⊎ (b ≡ false)
-either_false true b e = inr e
-either_false false b e = inl refl
-
 number_from : (k s most : ℕ) → s ≤ most → (nat_lt 0 k && nat_lt most (s + k)) ≡ false → s + k ≤ most
-number_from k s most few e = elim (either_false (nat_lt 0 k) (nat_lt most (s + k)) e) [
-  | inl none ↦ grind (arith, nat_tests, none, few)
-  | inr small ↦ grind (arith, nat_tests, small)
-]
+number_from k s most few e = grind (arith, nat_tests, and_cases)
 
 pub accepted : (limit : ℕ) (s : State) (c : Cleaned) → s.phases ≤ MAX_PHASE → refusal_of limit s c ≡ None → IsAccepted limit s c
-accepted limit s c few e =
-    let f = none_chosen (nat_lt limit (edges_after s c)) (nat_lt 0 (phases_of c) && nat_lt MAX_PHASE (phases_after s c)) (EdgeLimit (edges_after s c)) (PhaseLimit (phases_after s c)) e in
-    record {
-      room = grind (arith, nat_tests, f.0);
-      number = number_from (phases_of c) s.phases MAX_PHASE few f.1;
-    }
+accepted limit s c few e = grind (arith, nat_tests, none_chosen, nat_lt, number_from)
 
 -- what is true of a graph and its levels before and after each phase
 pub record IsAt (p : Profile) (g : GraphShape) (x : List ℕ) : Type 0 where

@@ -1,5 +1,5 @@
 -- Markers are lent, work side by side, and are given back.
-use Rattle.std.proofs.Common.{◌≡◌, ◌≢◌, ◌⊎◌, ℕ, ◌+◌, ◌*◌, ◌<◌, ◌≤◌, List, [], ◌∷◌, ◌++◌, length, get_or, take, drop, All, Contains, suc, zero, refl, sym, ap, ◌∙◌, subst, arith, ⊎_elim, inl, inr, append-nil, Bool, true, false, nat_eq, nat_lt, if◌then◌else◌}
+use Rattle.std.proofs.Common.{◌≡◌, ◌≢◌, ◌⊎◌, ℕ, ◌+◌, ◌*◌, ◌<◌, ◌≤◌, List, [], ◌∷◌, ◌++◌, length, get_or, All, Contains, refl, sym, ap, ◌∙◌, subst, arith, ⊎_elim, append-nil, Bool, true, false, nat_eq, nat_lt, if◌then◌else◌}
 use Rattle.std.proofs.lemmas.List.Elements.{All-nil, All-cons, All-head, All-tail, All-push, All-weaker, Contains-get_or, Contains-push, Contains-append_left, Contains-append_right}
 use Rattle.std.proofs.lemmas.Bool.Decides.{nat_tests}
 use mathlib.Core.Logic.{dite}
@@ -11,40 +11,14 @@ use Rattle.kc_store.specs.declared.roles.Loan.{Loan}
 use Rattle.kc_store.specs.declared.roles.WriterState.{WriterState}
 use Rattle.kc_store.specs.declared.roles.MarkerState.{MarkerState}
 use Rattle.kc_store.specs.Seats.{MarkerShape}
-use Rattle.kc_store.specs.States.{loan_of, with_loan, without_loan, with_returned, marker_for, AreNotLent}
+use Rattle.kc_store.specs.States.{loan_of, with_loan, without_loan, with_returned, marker_for}
 use Rattle.kc_store.proofs.lemmas.Shows.{lent_marked, lent_cleared}
 use Rattle.kc_engine.specs.private.Lending.{IsHeld, IsLentBy, AreLent, is_late, IsDue, MayDo, HasDoneRange, AreDone, all_returned, done_in, HasDoneGroup}
 use Rattle.kc_engine.specs.declared.showing.side_by_side.Task.{Task}
 use Rattle.kc_engine.specs.declared.showing.side_by_side.Task.TheVariants.{Mark, Clear}
 
 cases_of : {A : Type 0} → (x y : A) (xs : List A) → Contains (x ∷ xs) y → (x ≡ y) ⊎ Contains xs y
-cases_of x y xs on = go on.0 on.1 on.2
-  where
-    go : (k : ℕ) → k < length (x ∷ xs) → get_or (x ∷ xs) k y ≡ y → (x ≡ y) ⊎ Contains xs y
-    go zero lt is = inl is
-    go (suc k) lt is = inr (k, omega (arith, lt), is)
-
--- a slice's elements written back into the list that it was lent from
-pub written : {A : Type 0} → (n : ℕ) (xs ys : List A) → n ≡ length xs → length ys ≡ length xs → take n (ys ++ drop (length ys) xs) ≡ ys
-written n xs ys size long = ap (λ (k : ℕ). take k (ys ++ drop (length ys) xs)) (size ∙ sym long) ∙ front ys (drop (length ys) xs)
-  where
-    front : {A : Type 0} → (zs bs : List A) → take (length zs) (zs ++ bs) ≡ zs
-    front [] bs = none bs
-      where
-        none : {A : Type 0} → (cs : List A) → take 0 cs ≡ []
-        none [] = refl
-        none (c ∷ cs) = refl
-    front (z ∷ zs) bs = ap (λ more. z ∷ more) (front zs bs)
-
--- no marker is lent yet
-pub lent_none : (table : TableId) (g : ℕ) (s : WriterState) (ms : List MarkerShape) → s.loans ≡ [] → ms ≡ [] → AreLent table g 0 s s ms
-lent_none table g s ms none empty = record {
-  same = refl;
-  held = subst (All (IsHeld ms)) (sym none) (All-nil (IsHeld ms));
-  before = subst (All (λ (l : Loan). l.to ≤ 0)) (sym none) (All-nil (λ (l : Loan). l.to ≤ 0));
-  each = subst (All (IsLentBy table g s)) (sym empty) (All-nil (IsLentBy table g s));
-  covered = λ i lt. absurd (omega (arith, lt));
-}
+cases_of x y xs on = grind (arith, nat_tests, on.0, on.1, on.2)
 
 -- the next range is lent
 pub lent_more : (table : TableId) (g from to : ℕ) (old mid new : WriterState) (ms ns : List MarkerShape) (m : MarkerShape) → AreLent table g from old mid ms → from ≤ to → new ≡ with_loan g from to mid → m ≡ record { table = table; state = marker_for g from to mid } → ns ≡ ms ++ m ∷ []
@@ -71,26 +45,14 @@ lent_more table g from to old mid new ms ns m h later is made longer =
           (λ o. let c = h.covered i (omega (arith, o)) in (c.0, Contains-append_left ms (n ∷ []) c.0 c.1, c.2, c.3));
     }
 
--- the moves after those that are lent aren't
-pub not_lent : (table : TableId) (g from to : ℕ) (old new : WriterState) (ms : List MarkerShape) → AreLent table g from old new ms → AreNotLent g from to new.loans
-not_lent table g from to old new ms h k d lt same i le less = let b = h.before k d lt in inr (omega (arith, b, le))
-
 pub next_place : (k size : ℕ) → (k + 1) * size ≡ k * size + size
 next_place k size = omega arith
 
 early_test : (g p : ℕ) → p ≤ g → nat_lt g p ≡ false
-early_test g p le = go (nat_lt g p) refl
-  where
-    go : (b : Bool) → nat_lt g p ≡ b → nat_lt g p ≡ false
-    go true t = absurd (let lt : g < p = grind (arith, nat_tests, t) in omega (arith, lt, le))
-    go false t = t
+early_test g p le = grind (arith, nat_tests)
 
 late_test : (g p : ℕ) → g < p → nat_lt g p ≡ true
-late_test g p lt = go (nat_lt g p) refl
-  where
-    go : (b : Bool) → nat_lt g p ≡ b → nat_lt g p ≡ true
-    go true t = t
-    go false t = absurd (let le : p ≤ g = grind (arith, nat_tests, t) in omega (arith, lt, le))
+late_test g p lt = grind (arith, nat_tests)
 
 due_test : (task : Task) (g p : ℕ) → IsDue task g p → nat_lt g p ≡ is_late task
 due_test Mark g p le = early_test g p le
@@ -124,14 +86,6 @@ pub returned_last : (ms : List MarkerShape) (m : MarkerShape) (s : WriterState) 
 returned_last [] m s = refl
 returned_last (x ∷ xs) m s = ap (with_returned x.state) (returned_last xs m s)
 
-pub returned_nothing : (ms : List MarkerShape) (s : WriterState) → length ms ≡ 0 → all_returned ms s ≡ s
-returned_nothing [] s none = refl
-returned_nothing (x ∷ xs) s none = absurd (omega (arith, none))
-
-pub no_markers : (ms : List MarkerShape) → length ms ≡ 0 → ms ≡ []
-no_markers [] h = refl
-no_markers (x ∷ xs) h = absurd (omega (arith, h))
-
 returned_same : (ms : List MarkerShape) (s : WriterState) → all_returned ms s ≡ record s { noted = (all_returned ms s).noted; marked = (all_returned ms s).marked; cleared = (all_returned ms s).cleared; loans = (all_returned ms s).loans }
 returned_same [] s = refl
 returned_same (m ∷ ms) s = ap (with_returned m.state) (returned_same ms s)
@@ -155,10 +109,7 @@ returned_kept [] s v h = h
 returned_kept (x ∷ xs) s v h = Contains-append_left (all_returned xs s).cleared x.state.cleared v (returned_kept xs s v h)
 
 held_other : (m : MarkerShape) (rs : List MarkerShape) (l : Loan) → l.number ≢ m.state.loan.number → IsHeld (m ∷ rs) l → IsHeld rs l
-held_other m rs l o h = ⊎_elim
-    (λ (e : m ≡ h.0). absurd (o (sym (ap (λ (z : MarkerShape). z.state.loan.number) e ∙ h.2))))
-    (λ (r : Contains rs h.0). (h.0, r, h.2))
-    (cases_of m h.0 rs h.1)
+held_other m rs l o h = grind (arith, nat_tests, ⊎_elim, cases_of, h.0, h.2, h.1)
 
 held_fewer : (m : MarkerShape) (rs : List MarkerShape) (ls : List Loan) → All (IsHeld (m ∷ rs)) ls → All (IsHeld rs) (without_loan m.state.loan.number ls)
 held_fewer m rs [] h = All-nil (IsHeld rs)
@@ -194,10 +145,7 @@ returned_none ms s h = none_held (all_returned ms s).loans (returned_held ms [] 
 
 returned_over : (table : TableId) (g count : ℕ) (old mid : WriterState) (ms ns : List MarkerShape) → AreLent table g count old mid ms
     → all_returned ns mid ≡ record old { noted = (all_returned ns mid).noted; marked = (all_returned ns mid).marked; cleared = (all_returned ns mid).cleared; loans = (all_returned ns mid).loans; lent = (all_returned ns mid).lent }
-returned_over table g count old mid ms ns h =
-    let a = all_returned ns mid in
-    let lent : a.lent ≡ mid.lent = ap (λ (s : WriterState). s.lent) (returned_same ns mid) in
-    returned_same ns mid ∙ (ap (λ (s : WriterState). record s { noted = a.noted; marked = a.marked; cleared = a.cleared; loans = a.loans }) h.same ∙ ap (λ (k : ℕ). record old { noted = a.noted; marked = a.marked; cleared = a.cleared; loans = a.loans; lent = k }) (sym lent))
+returned_over table g count old mid ms ns h = grind (arith, nat_tests, returned_same, h.same)
 
 -- what one of the markers did counts once all are given back
 returned_done : (task : Task) (ns : List MarkerShape) (s : WriterState) (m n : MarkerShape) (i : ℕ) → Contains ns n → HasDoneRange task m n → m.state.loan.from ≤ i → i < m.state.loan.to → Contains (done_in task (all_returned ns s)) (vertex_at m.state.plan m.state.loan.group i)

@@ -4,6 +4,7 @@ use Rattle.std.specs.Prelude.{All, ◌≢◌, ◌↔◌, IsTrue, Result, Ok, Err
 use Rattle.std.proofs.lemmas.Bool.{iff_false}
 use Rattle.std.proofs.lemmas.List.{append-nil}
 use Rattle.std.proofs.lemmas.List.Elements.{All-cons, All-nil, All-append}
+use Rattle.std.proofs.lemmas.Bool.Decides.{nat_tests}
 use Rattle.kc_graph.specs.declared.cleaning.Cleaned.{Cleaned}
 use Rattle.kc_graph.specs.Shape.{Pair, GraphShape, EdgesFrom, IsGraph, with_edges, without_edges}
 use Rattle.kc_graph.specs.Changes.{AllPresent}
@@ -130,16 +131,10 @@ phase_count_is phase add (e ∷ es) x y g plans a =
     let b : IsOnePhase phase add (e ∷ es) x y g plans = a in
     ap (λ (t : List PhasePlan). length t) b.alone
 
-number_of : PhasePlan → ℕ
-number_of p = p.quiet.phase
-
 -- the phase of these edges has its number
 one_number : (phase : ℕ) (add : Bool) (es : List Pair) (x y : List ℕ) (g : GraphShape) (plans : List PhasePlan) → ArePhaseOf phase add es x y g plans → (i : ℕ) → i < length plans → get_or (map (λ (p : PhasePlan). p.quiet.phase) plans) i 0 ≡ phase + i
 one_number phase add [] x y g plans a i inside = absurd (omega (arith, ap (λ (t : List PhasePlan). length t) a, inside))
-one_number phase add (e ∷ es) x y g plans a i inside =
-    let b : IsOnePhase phase add (e ∷ es) x y g plans = a in
-    let first : i ≡ 0 = omega (arith, ap (λ (t : List PhasePlan). length t) b.alone, inside) in
-    rw (b.alone, first) (ap (λ (t : Entry). t.phase) b.entries.quiet ∙ omega arith)
+one_number phase add (e ∷ es) x y g plans a i inside = grind (arith, nat_tests)
 
 -- numbers that go on from one list to another
 numbers_on : (k : ℕ) (ls rs : List PhasePlan) → ((i : ℕ) → i < length ls → get_or (map (λ (p : PhasePlan). p.quiet.phase) ls) i 0 ≡ k + i) → ((i : ℕ) → i < length rs → get_or (map (λ (p : PhasePlan). p.quiet.phase) rs) i 0 ≡ k + length ls + i)
@@ -153,28 +148,10 @@ pub phases_are_numbered_on : PhasesAreNumberedOn
 phases_are_numbered_on = record { count = count; number = number }
   where
     count : (s t : State) (c : Cleaned) (plans : List PhasePlan) → IsAfterPhases s c t plans → s.phases + length plans ≡ t.phases
-    count s t c plans a =
-        omega (
-          arith,
-          ap (λ (ps : List PhasePlan). length ps) a.phases.all,
-          length-append a.phases.leaving a.phases.coming,
-          phase_count_is (s.phases + 1) false c.removed s.levels a.after.levels.between s.graph a.phases.leaving a.phases.deletion,
-          phase_count_is (s.phases + phases_for c.removed + 1) true c.added a.after.levels.between t.levels (graph_after_batch s.graph c) a.phases.coming a.phases.insertion,
-          a.after.phases,
-        )
+    count s t c plans a = grind (arith, nat_tests, length-append, phase_count_is, a.phases.all, a.phases.leaving, a.phases.coming, a.after.levels.between, a.phases.deletion, a.phases.insertion, a.after.phases)
 
     number : (s t : State) (c : Cleaned) (plans : List PhasePlan) (i : ℕ) → IsAfterPhases s c t plans → i < length plans → get_or (map (λ (p : PhasePlan). p.quiet.phase) plans) i 0 ≡ s.phases + i + 1
-    number s t c plans i a inside =
-        let few = phase_count_is (s.phases + 1) false c.removed s.levels a.after.levels.between s.graph a.phases.leaving a.phases.deletion in
-        let both = numbers_on (s.phases + 1) a.phases.leaving a.phases.coming
-        (one_number (s.phases + 1) false c.removed s.levels a.after.levels.between s.graph a.phases.leaving a.phases.deletion)
-        (
-        λ j h.
-        one_number (s.phases + phases_for c.removed + 1) true c.added a.after.levels.between t.levels (graph_after_batch s.graph c) a.phases.coming a.phases.insertion j h
-        ∙ omega (arith, few)
-        )
-        i (rw a.phases.all at inside) in
-        rw a.phases.all (both ∙ omega arith)
+    number s t c plans i a inside = grind (arith, nat_tests, phase_count_is, numbers_on, one_number, a.after.levels.between, a.phases.leaving, a.phases.deletion, a.phases.coming, a.phases.insertion, a.phases.all)
 
 -- the phase of these edges is well formed
 phase_well_formed : (phase : ℕ) (add : Bool) (es : List Pair) (x y : List ℕ) (g : GraphShape) (plans : List PhasePlan) → ArePhaseOf phase add es x y g plans → All (IsWellFormed g.vertices) plans
@@ -207,12 +184,7 @@ pub record IsLed (g h : GraphShape) (x y : List ℕ) (plans : List PhasePlan) : 
   pub levels : points.levels_after x (entries_in plans) ≡ y
 
 led_by_one : (g h : GraphShape) (x y : List ℕ) (plans : List PhasePlan) (p : PhasePlan) → plans ≡ p ∷ [] → points.graph_after g (entries_of p) ≡ h → points.levels_after x (entries_of p) ≡ y → IsLed g h x y plans
-led_by_one g h x y plans p alone graph levels =
-    let all : entries_in plans ≡ entries_of p = ap (λ (ps : List PhasePlan). entries_in ps) alone ∙ append-nil (entries_of p) in
-    record {
-      graph = ap (λ (es : List Entry). points.graph_after g es) all ∙ graph;
-      levels = ap (λ (es : List Entry). points.levels_after x es) all ∙ levels;
-    }
+led_by_one g h x y plans p alone graph levels = grind (arith, nat_tests, append-nil)
 
 led_by_none : (g : GraphShape) (x y : List ℕ) (plans : List PhasePlan) → plans ≡ [] → y ≡ x → IsLed g g x y plans
 led_by_none g x y plans none same = record {
@@ -243,12 +215,7 @@ led_in p phase (e ∷ es) x y g plans graph sx sy up high a =
     (entries_lead_over.levels phase true (e ∷ es) x y (with_edges g (e ∷ es)) b.plan is b.entries)
 
 led_both : (g h k : GraphShape) (x y z : List ℕ) (ps qs plans : List PhasePlan) → plans ≡ ps ++ qs → IsLed g h x y ps → IsLed h k y z qs → IsLed g k x z plans
-led_both g h k x y z ps qs plans all a b =
-    let one : entries_in plans ≡ entries_in ps ++ entries_in qs = ap (λ (t : List PhasePlan). entries_in t) all ∙ entries_in-append ps qs in
-    record {
-      graph = ap (λ (es : List Entry). points.graph_after g es) one ∙ graph_after-append g (entries_in ps) (entries_in qs) ∙ ap (λ (t : GraphShape). points.graph_after t (entries_in qs)) a.graph ∙ b.graph;
-      levels = ap (λ (es : List Entry). points.levels_after x es) one ∙ levels_after-append x (entries_in ps) (entries_in qs) ∙ ap (λ (t : List ℕ). points.levels_after t (entries_in qs)) a.levels ∙ b.levels;
-    }
+led_both g h k x y z ps qs plans all a b = grind (arith, nat_tests, entries_in-append, graph_after-append, levels_after-append, a.graph, b.graph, a.levels, b.levels)
 
 led_over : (limit : ℕ) (s t : State) (c : Cleaned) (plans : List PhasePlan) → IsSound limit s → IsCleaning s.graph c → IsAfterPhases s c t plans → IsLed s.graph t.graph s.levels t.levels plans
 led_over limit s t c plans sound cleaning a =

@@ -1,16 +1,16 @@
 -- Phases are shown one after another.
 use Rattle.std.proofs.Common.{◌≡◌, ℕ, ◌+◌, ◌<◌, ◌≤◌, List, [], ◌∷◌, ◌++◌, length, get_or, take, drop, suc, zero, refl, sym, ap, ◌∙◌, subst, arith, append_assoc, append-nil}
+use Rattle.std.proofs.lemmas.Bool.Decides.{nat_tests}
 use Rattle.kc_history.specs.declared.entries.Entry.{Entry}
 use Rattle.kc_history.specs.declared.limits.TheConstants.{MAX_PHASE}
 use Rattle.kc_groups.specs.declared.plans.PhasePlan.{PhasePlan}
 use Rattle.kc_groups.specs.Entries.{entries_of, entries_in}
-use Rattle.kc_groups.specs.WellFormed.{IsWellFormed}
 use Rattle.kc_store.specs.declared.roles.WriterState.{WriterState}
 use Rattle.kc_store.specs.States.{MayBegin}
 use Rattle.kc_store.specs.private.Showing.{HasShown}
 use Rattle.kc_store.specs.Showing.{IsIdle}
 use Rattle.kc_store.proofs.lemmas.Shows.{idle_shown}
-use Rattle.kc_engine.specs.Showing.{IsNext, GoOn, AreShown}
+use Rattle.kc_engine.specs.Showing.{GoOn, AreShown}
 
 -- the first of the phases are shown, and the rest goes on from there
 pub record IsOnTheWay (n : ℕ) (plans rest : List PhasePlan) (old new : WriterState) : Type 0 where
@@ -25,27 +25,11 @@ way_begins n plans s idle on = record { vertices = refl; history = refl; phase =
 
 pub drop_more : (xs : List PhasePlan) (k : ℕ) (d : PhasePlan) → k < length xs → drop k xs ≡ get_or xs k d ∷ drop (k + 1) xs
 drop_more [] k d lt = absurd (omega (arith, lt))
-drop_more (x ∷ xs) zero d lt = ap (λ (zs : List PhasePlan). x ∷ zs) (sym (whole xs))
-  where
-    whole : (ys : List PhasePlan) → drop 0 ys ≡ ys
-    whole [] = refl
-    whole (y ∷ ys) = refl
+drop_more (x ∷ xs) zero d lt = grind (arith, nat_tests)
 drop_more (x ∷ xs) (suc k) d lt = let e : suc (k + 1) ≡ suc k + 1 = omega arith in drop_more xs k d (omega (arith, lt)) ∙ ap (λ (z : ℕ). get_or xs k d ∷ drop z (x ∷ xs)) e
 
 pub may_begin : (n : ℕ) (plans rest : List PhasePlan) (plan : PhasePlan) (old mid : WriterState) → old.vertices ≡ n → old.phase + length plans ≤ MAX_PHASE → IsOnTheWay n plans (plan ∷ rest) old mid → MayBegin mid plan
-may_begin n plans rest plan old mid vertices few h =
-    let next : IsNext n mid.phase mid.history plan = h.goes_on.0 in
-    let same : n ≡ mid.vertices = sym (h.vertices ∙ vertices) in
-    let phase = h.phase in
-    record {
-      all_published = h.idle.published;
-      all_cleared = h.idle.cleared;
-      none_out = h.idle.loans;
-      next = next.number;
-      phase_in = omega (arith, phase, few);
-      well_formed = subst (λ (k : ℕ). IsWellFormed k plan) same next.well_formed;
-      old_levels = (subst (λ (k : ℕ). IsNext k mid.phase mid.history plan) same next).old_levels;
-    }
+may_begin n plans rest plan old mid vertices few h = grind (arith, nat_tests, h.goes_on.0, h.vertices, h.phase, h.idle.published, h.idle.cleared, h.idle.loans)
 
 take_whole : (plan : PhasePlan) → take (length plan.groups + 1) (entries_of plan) ≡ entries_of plan
 take_whole plan = let e : length plan.groups + 1 ≡ suc (length plan.groups) = omega arith in ap (λ (k : ℕ). take k (entries_of plan)) e ∙ all (entries_of plan)
@@ -55,28 +39,10 @@ take_whole plan = let e : length plan.groups + 1 ≡ suc (length plan.groups) = 
     all (e ∷ es) = ap (λ (zs : List Entry). e ∷ zs) (all es)
 
 pub way_more : (n : ℕ) (plans rest : List PhasePlan) (plan : PhasePlan) (old mid new : WriterState) → IsOnTheWay n plans (plan ∷ rest) old mid → HasShown plan (length plan.groups) mid new → IsOnTheWay n plans rest old new
-way_more n plans rest plan old mid new h k =
-    let grown : new.history ≡ mid.history ++ entries_of plan = k.history ∙ ap (λ (zs : List Entry). mid.history ++ zs) (take_whole plan) in
-    let a = k.phase in
-    let b = h.phase in
-    record {
-      vertices = k.vertices ∙ h.vertices;
-      history = ap (λ (zs : List Entry). zs ++ entries_in rest) grown ∙ (append_assoc mid.history (entries_of plan) (entries_in rest) ∙ h.history);
-      phase = omega (arith, a, b);
-      idle = idle_shown plan mid new k;
-      goes_on = subst (λ (z : ℕ × List Entry). GoOn n z.0 z.1 rest) (λ i. (sym k.phase i, sym grown i)) h.goes_on.1;
-    }
+way_more n plans rest plan old mid new h k = grind (arith, nat_tests, take_whole, append_assoc, idle_shown, k.history, k.phase, h.phase, k.vertices, h.vertices, h.history, h.goes_on.1)
 
 pub way_ends : (n : ℕ) (plans rest : List PhasePlan) (old new : WriterState) → rest ≡ [] → IsOnTheWay n plans rest old new → AreShown plans old new
-way_ends n plans rest old new none h =
-    let len : length rest ≡ 0 = ap (λ (zs : List PhasePlan). length zs) none in
-    let b = h.phase in
-    record {
-      vertices = h.vertices;
-      history = sym (append-nil new.history) ∙ (ap (λ (zs : List PhasePlan). new.history ++ entries_in zs) (sym none) ∙ h.history);
-      phase = omega (arith, len, b);
-      idle = h.idle;
-    }
+way_ends n plans rest old new none h = grind (arith, nat_tests, append-nil, h.phase, h.vertices, h.history, h.idle)
 
 pub drop_all : (xs : List PhasePlan) (k : ℕ) → length xs ≤ k → drop k xs ≡ []
 drop_all [] zero le = refl

@@ -11,20 +11,12 @@ use Rattle.kc_groups.specs.declared.plans.PhasePlan.{PhasePlan}
 use Rattle.kc_groups.specs.Entries.{entries_of, entries_in, AreEntries}
 use Rattle.kc_groups.specs.Laws.{IsOwnMove}
 use Rattle.kc_groups.specs.WellFormed.{IsWellFormed}
-use Rattle.std.specs.Prelude.{Err}
-use Rattle.std.proofs.lemmas.Bool.{false≢true}
 use Rattle.kc_groups.proofs.lemmas.Plans.{plan_is_well_formed, moves_are_in_their_groups}
 use Rattle.kc_store.specs.declared.roles.WriterState.{WriterState}
-use Rattle.kc_levels.specs.declared.profile.Profile.{Profile}
-use Rattle.kc_store.specs.States as store
-use Rattle.kc_engine.specs.States.{State, start, IsSound}
+use Rattle.kc_engine.specs.States.{State, IsSound}
 use Rattle.kc_engine.specs.Batches.{IsCleaning, phases_for, graph_after_batch, IsOnePhase, ArePhaseOf, IsAfterPhases}
 use Rattle.kc_engine.specs.Laws.{IsHistoryOf}
-use Rattle.kc_engine.specs.declared.faults.EngineFault.{EngineFault}
-use Rattle.kc_engine.specs.declared.faults.EngineFault.TheVariants.{Halted, EdgeLimit, PhaseLimit, Memory}
-use Rattle.kc_engine.specs.declared.plans.BatchPlan.{BatchPlan}
-use Rattle.kc_engine.specs.Planning.{EngineView, IsPlanned, Answers}
-use Rattle.kc_engine.specs.Showing.{IsNext, GoOn, AreShown, Continues, IsAbreast, PhasesContinue, ShownIsAbreast}
+use Rattle.kc_engine.specs.Showing.{IsNext, GoOn, IsAbreast, PhasesContinue, ShownIsAbreast}
 use Rattle.kc_engine.proofs.BatchLemmas.{fits, at_state, after_lowered, vertices_after}
 use Rattle.kc_engine.proofs.PhaseLaw.{led_out, phase_count_is, phases_are_numbered_on, phases_lead_on}
 
@@ -91,34 +83,4 @@ shown_is_abreast limit w x s t c plans sound cleaning a abreast shown = record {
   phase = shown.phase ∙ (ap (λ (k : ℕ). k + length plans) abreast.phase ∙ phases_are_numbered_on.count s t c plans a);
   history = subst (λ (es : List Entry). IsHistoryOf t.graph.vertices es t) (sym shown.history) (led_on limit w s t c plans sound cleaning a abreast);
   idle = shown.idle;
-}
-
--- the same of an engine that made the plan
-pub planned_continues : (w : WriterState) (e f : EngineView) (c : Cleaned) (plan : BatchPlan) → IsSound e.edge_limit e.state → IsCleaning e.state.graph c → IsPlanned e c plan f → IsAbreast w e.state → Continues w f.state plan.phases
-planned_continues w e f c plan sound cleaning p abreast = phases_continue e.edge_limit w e.state f.state c plan.phases sound cleaning (record { after = p.after; phases = p.phases }) abreast
-
-pub planned_abreast : (w x : WriterState) (e f : EngineView) (c : Cleaned) (plan : BatchPlan) → IsSound e.edge_limit e.state → IsCleaning e.state.graph c → IsPlanned e c plan f → IsAbreast w e.state → AreShown plan.phases w x → IsAbreast x f.state
-planned_abreast w x e f c plan sound cleaning p abreast shown = shown_is_abreast e.edge_limit w x e.state f.state c plan.phases sound cleaning (record { after = p.after; phases = p.phases }) abreast shown
-
-pub planned_vertices : (w : WriterState) (e f : EngineView) (c : Cleaned) (plan : BatchPlan) → IsPlanned e c plan f → IsAbreast w e.state → w.vertices ≡ f.state.graph.vertices
-planned_vertices w e f c plan p abreast = abreast.vertices ∙ same_vertices e.state f.state c plan.phases (record { after = p.after; phases = p.phases })
-
--- after a fault no plan waits, and unless the engine has halted, the writer is abreast of it as before
-pub record IsUnshown (w : WriterState) (f : EngineView) : Type 0 where
-  pub waits : f.waits ≡ false
-  pub abreast : f.halted ≡ false → IsAbreast w f.state
-
-pub after_fault : (w : WriterState) (e f : EngineView) (c : Cleaned) (fault : EngineFault) → Answers e c (Err fault) f → e.waits ≡ false → (e.halted ≡ false → IsAbreast w e.state) → IsUnshown w f
-after_fault w e f c Halted a waits abreast = subst (IsUnshown w) (sym a.1) record { waits = waits; abreast = abreast }
-after_fault w e f c (EdgeLimit edges) a waits abreast = subst (IsUnshown w) (sym a.same) record { waits = waits; abreast = abreast }
-after_fault w e f c (PhaseLimit phase) a waits abreast = subst (IsUnshown w) (sym a.same) record { waits = waits; abreast = abreast }
-after_fault w e f c (Memory error) a waits abreast = record { waits = ap (λ (z : EngineView). z.waits) a.rest ∙ waits; abreast = λ h. absurd (false≢true (sym h ∙ a.halted)) }
-
--- the writer of a store that was just opened is abreast of the state before the first batch
-pub opened_abreast : (p : Profile) (n before : ℕ) → IsAbreast (store.opened n before) (start p n before)
-opened_abreast p n before = record {
-  vertices = refl;
-  phase = refl;
-  history = record { graph = refl; levels = refl };
-  idle = record { published = refl; cleared = λ k d lt. absurd (omega (arith, lt)); loans = refl };
 }

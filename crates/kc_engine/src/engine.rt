@@ -256,6 +256,7 @@ impl Engine {
         ensures value { result.now ≡ self.now.state.graph }
         ensures sound { self.now.halted ≡ false → IsSound self.now.edge_limit self.now.state }
     {
+        // Evidence for the check: the engine is sound unless it has halted.
         let _halted = self.halted;
         self.phased.adj.graph()
     }

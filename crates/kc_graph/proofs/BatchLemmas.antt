@@ -5,10 +5,11 @@ use Rattle.std.proofs.lemmas.Bool.Decides.{nat_tests}
 use Rattle.std.proofs.lemmas.List.Elements.{All-head, All-tail}
 use Rattle.std.specs.List.{list_any}
 use Rattle.std.specs.Prelude.{All, not, count_by, Option, Some, None}
+use Rattle.std.proofs.Math.Bool.{or-false}
 use Rattle.kc_graph.specs.declared.items.Item.{Item}
 use Rattle.kc_graph.specs.declared.items.Item.TheVariants.{Insert, Delete, Isolate}
 use Rattle.kc_graph.specs.declared.keys.Key.{Key}
-use Rattle.kc_graph.specs.Shape.{Pair, EdgesFrom, same_edge, has_edge, insert_edge}
+use Rattle.kc_graph.specs.Shape.{Pair, EdgesFrom, same_edge, has_edge}
 use Rattle.kc_graph.specs.Cleaning.{IsInside, is_loop, proper_items, pair_of, touches, is_touched, deciding_item, is_insertion, inserted_pairs, is_repeat, is_idle, count_with_later}
 use Rattle.kc_graph.specs.private.Keys.{is_pairless, pair_items, key_at, keys_of, same_pair}
 use Rattle.kc_graph.specs.Keys.{edge_of, removes, adds}
@@ -28,28 +29,9 @@ deciding_none e (item ∷ items) none =
 -- the pair that an insertion decides on is a pair of an insertion
 pub inserted_if_decided : (e : Pair) (items : List Item) → is_insertion (deciding_item e items) ≡ true → has_edge e (inserted_pairs items) ≡ true
 inserted_if_decided e [] h = absurd (cc)
-inserted_if_decided e (Insert u v ∷ items) h = go (is_touched e items) (touches e (Insert u v)) refl h (inserted_if_decided e items)
-  where
-    go : (b t : Bool) → touches e (Insert u v) ≡ t → is_insertion (cond b (deciding_item e items) (cond t (Some (Insert u v)) None)) ≡ true → (is_insertion (deciding_item e items) ≡ true → has_edge e (inserted_pairs items) ≡ true) → has_edge e (insert_edge (pair_of u v) (inserted_pairs items)) ≡ true
-    go true t is h later = rw (has_edge-insert_edge (pair_of u v) e (inserted_pairs items), later h) (or_true (same_edge e (pair_of u v)))
-      where
-        or_true : (b : Bool) → (b || true) ≡ true
-        or_true true = refl
-        or_true false = refl
-    go false true is h later = rw (has_edge-insert_edge (pair_of u v) e (inserted_pairs items), is) refl
-    go false false is h later = absurd (cc)
-inserted_if_decided e (Delete u v ∷ items) h = go (is_touched e items) (touches e (Delete u v)) h (inserted_if_decided e items)
-  where
-    go : (b t : Bool) → is_insertion (cond b (deciding_item e items) (cond t (Some (Delete u v)) None)) ≡ true → (is_insertion (deciding_item e items) ≡ true → has_edge e (inserted_pairs items) ≡ true) → has_edge e (inserted_pairs items) ≡ true
-    go true t h later = later h
-    go false true h later = absurd (cc)
-    go false false h later = absurd (cc)
-inserted_if_decided e (Isolate v ∷ items) h = go (is_touched e items) (touches e (Isolate v)) h (inserted_if_decided e items)
-  where
-    go : (b t : Bool) → is_insertion (cond b (deciding_item e items) (cond t (Some (Isolate v)) None)) ≡ true → (is_insertion (deciding_item e items) ≡ true → has_edge e (inserted_pairs items) ≡ true) → has_edge e (inserted_pairs items) ≡ true
-    go true t h later = later h
-    go false true h later = absurd (cc)
-    go false false h later = absurd (cc)
+inserted_if_decided e (Insert u v ∷ items) h = grind (arith, nat_tests, inserted_if_decided e items, has_edge-insert_edge)
+inserted_if_decided e (Delete u v ∷ items) h = grind (arith, nat_tests, inserted_if_decided e items)
+inserted_if_decided e (Isolate v ∷ items) h = grind (arith, nat_tests, inserted_if_decided e items)
 
 pub edges_from_inserted : (n : ℕ) (items : List Item) → All (IsInside n) items → EdgesFrom n 0 0 (inserted_pairs (proper_items items))
 edges_from_inserted n [] inside = tt
@@ -96,30 +78,14 @@ key_repeats (Isolate v) later paired = absurd (cc)
 
 -- whether a key that decides is idle
 pub key_is_idle : (edges : List Pair) (item : Item) (later : List Item) → is_pairless item ≡ false → is_idle edges item later ≡ not (is_touched (edge_of (key_at item)) later) && not (removes edges (key_at item) || adds edges (key_at item))
-key_is_idle edges (Insert u v) later paired = ap (λ b. not (is_touched (pair_of u v) later) && b) (not_not (has_edge (pair_of u v) edges))
-  where
-    not_not : (b : Bool) → b ≡ not (not b)
-    not_not true = refl
-    not_not false = refl
-key_is_idle edges (Delete u v) later paired = ap (λ b. not (is_touched (pair_of u v) later) && b) (or_none (has_edge (pair_of u v) edges))
-  where
-    or_none : (b : Bool) → not b ≡ not (b || false)
-    or_none true = refl
-    or_none false = refl
+key_is_idle edges (Insert u v) later paired = grind (arith, nat_tests)
+key_is_idle edges (Delete u v) later paired = grind (arith, nat_tests)
 key_is_idle edges (Isolate v) later paired = absurd (cc)
 
 -- the keys of a batch touch the pairs that its items touch
 pub keys_touch : (e : Pair) (items : List Item) → list_any (λ k. same_edge e (edge_of k)) (keys_of items) ≡ is_touched e (pair_items items)
 keys_touch e [] = refl
-keys_touch e (item ∷ items) = go (is_pairless item) refl (keys_touch e items)
-  where
-    go : (b : Bool) → is_pairless item ≡ b → list_any (λ k. same_edge e (edge_of k)) (keys_of items) ≡ is_touched e (pair_items items) → list_any (λ k. same_edge e (edge_of k)) (cond b (keys_of items) (key_at item ∷ keys_of items)) ≡ is_touched e (cond (not b) (item ∷ pair_items items) (pair_items items))
-    go true is rest = rest
-    go false is rest = rw (key_touches e item is, rest) refl
-
-or_false : (b : Bool) → (b || false) ≡ b
-or_false true = refl
-or_false false = refl
+keys_touch e (item ∷ items) = grind (arith, nat_tests, keys_touch e items, key_touches)
 
 -- what the item that decides on e passes is what a key of e that decides on its pair passes:
 -- a test of whether it is an insertion, and one of e
@@ -128,11 +94,7 @@ DecideAlike q r e ks items =
     list_any (λ k. same_edge e (edge_of k) && (q k.insert && r (edge_of k))) (deciding_keys ks) ≡ (asks q (deciding_item e items) && r e)
 
 decided_later : (e : Pair) (items : List Item) → cond (is_touched e items) (deciding_item e items) None ≡ deciding_item e items
-decided_later e items = go (is_touched e items) refl
-  where
-    go : (b : Bool) → is_touched e items ≡ b → cond b (deciding_item e items) None ≡ deciding_item e items
-    go true is = refl
-    go false is = sym (deciding_none e items is)
+decided_later e items = grind (arith, nat_tests, deciding_none)
 
 -- one more item, in front
 alike_more : (q : Bool → Bool) (r : Pair → Bool) (e : Pair) (item : Item) (ks : List Key) (items : List Item) → ((f : Pair) → list_any (λ k. same_edge f (edge_of k)) ks ≡ is_touched f items) → is_pairless item ≡ false → DecideAlike q r e ks items → DecideAlike q r e (key_at item ∷ ks) (item ∷ items)
@@ -148,19 +110,13 @@ alike_more q r e item ks items touched paired rest =
         let same : e ≡ edge_of (key_at item) = edge_is e (edge_of (key_at item)) (key_touches e item paired ∙ here) in
         let none : is_touched e items ≡ false = ap (λ f. is_touched f items) same ∙ sym (touched (edge_of (key_at item))) ∙ last in
         let nothing : list_any (λ k. same_edge e (edge_of k) && (q k.insert && r (edge_of k))) (deciding_keys ks) ≡ false = rest ∙ ap (λ (o : Option Item). asks q o && r e) (deciding_none e items none) in
-        rw (none, key_touches e item paired, here, nothing, or_false (q (key_at item).insert && r (edge_of (key_at item))), key_inserts item, ← same) refl
+        rw (none, key_touches e item paired, here, nothing, or-false (q (key_at item).insert && r (edge_of (key_at item))), key_inserts item, ← same) refl
     go true again false other = rw (decided_later e items) rest
     go false last false other = rw (decided_later e items, key_touches e item paired, other) rest
 
 pub keys_decide : (q : Bool → Bool) (r : Pair → Bool) (e : Pair) (items : List Item) → DecideAlike q r e (keys_of items) (pair_items items)
 keys_decide q r e [] = refl
-keys_decide q r e (item ∷ items) =
-    let rest = keys_decide q r e items in
-    go (is_pairless item) refl rest (λ is. alike_more q r e item (keys_of items) (pair_items items) (λ f. keys_touch f items) is rest)
-  where
-    go : (b : Bool) → is_pairless item ≡ b → DecideAlike q r e (keys_of items) (pair_items items) → (is_pairless item ≡ false → DecideAlike q r e (key_at item ∷ keys_of items) (item ∷ pair_items items)) → DecideAlike q r e (cond b (keys_of items) (key_at item ∷ keys_of items)) (cond (not b) (item ∷ pair_items items) (pair_items items))
-    go true is rest more = rest
-    go false is rest more = more is
+keys_decide q r e (item ∷ items) = grind (arith, nat_tests, keys_decide q r e items, alike_more, keys_touch)
 
 -- the items that don't decide are the keys that don't
 pub keys_repeat : (items : List Item) → count_with_later is_repeat (pair_items items) + length (deciding_keys (keys_of items)) ≡ length (keys_of items)

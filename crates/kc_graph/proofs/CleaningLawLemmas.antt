@@ -1,14 +1,14 @@
 -- Lemmas on what a batch comes to in a graph.
-use Rattle.std.proofs.Common.{ℕ, ◌<◌, ◌≡◌, Bool, true, false, ◌||◌, ◌&&◌, cond, eqb, List, [], ◌∷◌, refl, ap, sym, ◌∙◌, arith, subst}
+use Rattle.std.proofs.Common.{ℕ, ◌<◌, ◌≡◌, Bool, true, false, ◌||◌, ◌&&◌, List, [], ◌∷◌, refl, ap, sym, ◌∙◌, arith, subst}
 use Rattle.std.proofs.lemmas.Bool.{and_parts, not-true}
 use Rattle.std.proofs.lemmas.Bool.Decides.{nat_tests}
 use Rattle.std.proofs.lemmas.List.Elements.{All-nil, All-cons, All-head, All-tail, All-weaker, All-filter, filter_passes}
 use Rattle.std.specs.Prelude.{All, not, Option, Some, None}
 use Rattle.kc_graph.specs.declared.items.Item.{Item}
 use Rattle.kc_graph.specs.declared.items.Item.TheVariants.{Insert, Delete, Isolate}
-use Rattle.kc_graph.specs.Shape.{GraphShape, Pair, EdgesFrom, IsGraph, same_edge, has_edge, with_edge, without_edge, with_edges, without_edges}
+use Rattle.kc_graph.specs.Shape.{GraphShape, Pair, EdgesFrom, IsGraph, same_edge, has_edge, with_edges, without_edges}
 use Rattle.kc_graph.specs.Changes.{AllAbsent, AllPresent}
-use Rattle.kc_graph.specs.Cleaning.{IsInside, is_loop, proper_items, holds, pair_of, touches, is_touched, deciding_item, takes_out, is_insertion, inserted_pairs, added_edges, cleaned}
+use Rattle.kc_graph.specs.Cleaning.{IsInside, is_loop, proper_items, holds, is_touched, deciding_item, takes_out, is_insertion, inserted_pairs, added_edges, cleaned}
 use Rattle.kc_graph.specs.CleaningLaws.{FitsGraph, after_item, after_items}
 use Rattle.kc_graph.proofs.EdgeLemmas.{has_edge-insert_edge, has_edge-remove_edge, same_graph}
 use Rattle.kc_graph.proofs.ChangeLemmas.{can_add_ascending, can_remove_ascending, vertices-with_edges, vertices-without_edges, has_edge-with_edges, has_edge-without_edges, length-without_edges, is_graph-with_edge, is_graph-without_edge, inside_from_ascending, is_graph-with_edges, is_graph-without_edges}
@@ -77,74 +77,24 @@ outcome (Some (Isolate v)) there = false
 
 touched_outcome : (e : Pair) (items : List Item) (a b : Bool) → is_touched e items ≡ true → outcome (deciding_item e items) a ≡ outcome (deciding_item e items) b
 touched_outcome e [] a b h = absurd (cc)
-touched_outcome e (item ∷ items) a b h = go (is_touched e items) refl (touches e item) h (touched_outcome e items a b) item
-  where
-    go : (t : Bool) → is_touched e items ≡ t → (s : Bool) → (s || t) ≡ true → (is_touched e items ≡ true → outcome (deciding_item e items) a ≡ outcome (deciding_item e items) b) → (i : Item) → outcome (cond t (deciding_item e items) (cond s (Some i) None)) a ≡ outcome (cond t (deciding_item e items) (cond s (Some i) None)) b
-    go true is s h later i = later is
-    go false is true h later (Insert u v) = refl
-    go false is true h later (Delete u v) = refl
-    go false is true h later (Isolate v) = refl
-    go false is false h later i = absurd (cc)
+touched_outcome e (item ∷ items) a b h = grind (arith, nat_tests, touched_outcome e items a b)
 
 -- whether the edge is there after an item that is no loop
 after_first : (e : Pair) (item : Item) (items : List Item) (g : GraphShape) → is_loop item ≡ false → outcome (deciding_item e items) (has_edge e (after_item g item).edges) ≡ outcome (deciding_item e (item ∷ items)) (has_edge e g.edges)
-after_first e item items g no_loop = go (is_touched e items) refl
-  where
-    at : (i : Item) → is_loop i ≡ false → has_edge e (after_item g i).edges ≡ outcome (cond (touches e i) (Some i) None) (has_edge e g.edges)
-    at (Insert u v) no_loop = rw (no_loop, has_edge-insert_edge (pair_of u v) e g.edges) (put (same_edge e (pair_of u v)))
-      where
-        put : (s : Bool) → (s || has_edge e g.edges) ≡ outcome (cond s (Some (Insert u v)) None) (has_edge e g.edges)
-        put true = refl
-        put false = refl
-    at (Delete u v) no_loop = rw (no_loop, has_edge-remove_edge (pair_of u v) e g.edges) (out (same_edge e (pair_of u v)))
-      where
-        out : (s : Bool) → (not s && has_edge e g.edges) ≡ outcome (cond s (Some (Delete u v)) None) (has_edge e g.edges)
-        out true = refl
-        out false = refl
-    at (Isolate v) no_loop = has_edge-filter e (λ f. not (holds v f)) g.edges ∙ out (holds v e)
-      where
-        out : (s : Bool) → (not s && has_edge e g.edges) ≡ outcome (cond s (Some (Isolate v)) None) (has_edge e g.edges)
-        out true = refl
-        out false = refl
-
-    go : (t : Bool) → is_touched e items ≡ t → outcome (deciding_item e items) (has_edge e (after_item g item).edges) ≡ outcome (cond t (deciding_item e items) (cond (touches e item) (Some item) None)) (has_edge e g.edges)
-    go true is = touched_outcome e items (has_edge e (after_item g item).edges) (has_edge e g.edges) is
-    go false is = rw (deciding_none e items is) (at item no_loop)
+after_first e item items g no_loop = grind (arith, nat_tests, has_edge-insert_edge, has_edge-remove_edge, has_edge-filter, touched_outcome, deciding_none)
 
 has_edge-after_items : (e : Pair) (items : List Item) (g : GraphShape) → has_edge e (after_items g items).edges ≡ outcome (deciding_item e (proper_items items)) (has_edge e g.edges)
 has_edge-after_items e [] g = refl
-has_edge-after_items e (item ∷ items) g = has_edge-after_items e items (after_item g item) ∙ go item (is_loop item) refl
-  where
-    go : (i : Item) (b : Bool) → is_loop i ≡ b → outcome (deciding_item e (proper_items items)) (has_edge e (after_item g i).edges) ≡ outcome (deciding_item e (cond (not b) (i ∷ proper_items items) (proper_items items))) (has_edge e g.edges)
-    go (Insert u v) true is = rw is refl
-    go (Delete u v) true is = rw is refl
-    go (Isolate v) true is = absurd (cc)
-    go i false is = after_first e i (proper_items items) g is
+has_edge-after_items e (item ∷ items) g = grind (arith, nat_tests, has_edge-after_items e items (after_item g item), after_first)
 
 after_item_is_graph : (g : GraphShape) (item : Item) → IsGraph g → IsInside g.vertices item → IsGraph (after_item g item)
-after_item_is_graph g (Insert u v) graph inside = go (eqb u v) refl
-  where
-    go : (b : Bool) → eqb u v ≡ b → IsGraph (cond b g (with_edge g (pair_of u v)))
-    go true is = graph
-    go false is = is_graph-with_edge g (pair_of u v) graph (grind (arith, nat_tests, is)) (grind (arith, nat_tests, inside.0, inside.1))
-after_item_is_graph g (Delete u v) graph inside = go (eqb u v)
-  where
-    go : (b : Bool) → IsGraph (cond b g (without_edge g (pair_of u v)))
-    go true = graph
-    go false = is_graph-without_edge g (pair_of u v) graph
+after_item_is_graph g (Insert u v) graph inside = grind (arith, nat_tests, is_graph-with_edge, inside.0, inside.1)
+after_item_is_graph g (Delete u v) graph inside = grind (arith, nat_tests, is_graph-without_edge)
 after_item_is_graph g (Isolate v) graph inside = edges_from_filter g.vertices 0 0 (λ e. not (holds v e)) g.edges graph
 
 vertices-after_item : (g : GraphShape) (item : Item) → (after_item g item).vertices ≡ g.vertices
-vertices-after_item g (Insert u v) = go (eqb u v)
-  where
-    go : (b : Bool) → (cond b g (with_edge g (pair_of u v))).vertices ≡ g.vertices
-    go true = refl
-    go false = refl
-vertices-after_item g (Delete u v) = go (eqb u v)
-  where
-    go : (b : Bool) → (cond b g (without_edge g (pair_of u v))).vertices ≡ g.vertices
-    go true = refl
-    go false = refl
+vertices-after_item g (Insert u v) = grind (arith, nat_tests)
+vertices-after_item g (Delete u v) = grind (arith, nat_tests)
 vertices-after_item g (Isolate v) = refl
 
 after_items_is_graph : (g : GraphShape) (items : List Item) → IsGraph g → All (IsInside g.vertices) items → IsGraph (after_items g items)
@@ -180,7 +130,4 @@ cleaned_leads_as_items g items graph inside =
     decide (Some (Isolate v)) false t there = refl
 
     at : (e : Pair) → (has_edge e (cleaned g items).added || (not (has_edge e (cleaned g items).removed) && has_edge e g.edges)) ≡ outcome (deciding_item e (proper_items items)) (has_edge e g.edges)
-    at e =
-        let a = has_edge-filter e (λ e. not (has_edge e g.edges) && is_insertion (deciding_item e (proper_items items))) (inserted_pairs (proper_items items)) in
-        let r = has_edge-filter e (λ e. takes_out (deciding_item e (proper_items items))) g.edges in
-        rw (a, r) (decide (deciding_item e (proper_items items)) (has_edge e g.edges) (has_edge e (inserted_pairs (proper_items items))) (inserted_if_decided e (proper_items items)))
+    at e = grind (arith, nat_tests, has_edge-filter, decide, inserted_if_decided)

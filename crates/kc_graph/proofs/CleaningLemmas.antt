@@ -7,6 +7,7 @@ use Rattle.std.proofs.lemmas.List.Sorted.{length_permutation, list_any-IsPermuta
 use Rattle.std.specs.List.{list_any}
 use Rattle.std.specs.List.Sorted.{IsPermutation}
 use Rattle.std.specs.Prelude.{All, not, count_by, filter, Option, Some, None}
+use Rattle.std.proofs.lemmas.Bool.Decides.{nat_tests}
 use Rattle.kc_graph.specs.declared.items.Item.{Item}
 use Rattle.kc_graph.specs.declared.items.Item.TheVariants.{Insert, Delete, Isolate}
 use Rattle.kc_graph.specs.declared.keys.Key.{Key}
@@ -40,11 +41,7 @@ pub record Walks (edges : List Pair) (ks : List Key) (c d : Cleaned) : Type 0 wh
 
 -- one more pair in front, if the key passes
 pushed_first : (p : Key → Bool) (k : Key) (ks : List Key) (es : List Pair) → cond (p k) (es ++ edge_of k ∷ []) es ++ map edge_of (filter p ks) ≡ es ++ map edge_of (filter p (k ∷ ks))
-pushed_first p k ks es = go (p k)
-  where
-    go : (b : Bool) → cond b (es ++ edge_of k ∷ []) es ++ map edge_of (filter p ks) ≡ es ++ map edge_of (cond b (k ∷ filter p ks) (filter p ks))
-    go true = append_assoc es (edge_of k ∷ []) (map edge_of (filter p ks))
-    go false = refl
+pushed_first p k ks es = grind (arith, nat_tests, append_assoc)
 
 pub walks : (edges : List Pair) (ks : List Key) (c : Cleaned) → Ascend ks → Walks edges ks c (walked edges ks c)
 walks edges [] c up = record {
@@ -180,12 +177,7 @@ added_found g items ks plain inside s =
         ∙ sym (has_edge-filter e (λ e. not (has_edge e g.edges) && is_insertion (deciding_item e (proper_items items))) (inserted_pairs (proper_items items)))
 
 pub same_cleaned : (c d : Cleaned) → c.removed ≡ d.removed → c.added ≡ d.added → c.loops ≡ d.loops → c.repeats ≡ d.repeats → c.idle ≡ d.idle → c ≡ d
-same_cleaned c d removed added loops repeats idle =
-    ap (λ (x : List Pair). record c { removed = x }) removed
-    ∙ ap (λ (x : List Pair). record c { removed = d.removed; added = x }) added
-    ∙ ap (λ (x : ℕ). record c { removed = d.removed; added = d.added; loops = x }) loops
-    ∙ ap (λ (x : ℕ). record c { removed = d.removed; added = d.added; loops = d.loops; repeats = x }) repeats
-    ∙ ap (λ (x : ℕ). record d { idle = x }) idle
+same_cleaned c d removed added loops repeats idle = grind (arith, nat_tests)
 
 -- the numbers of the keys of a batch, sorted, are those of its keys dealt by their pairs
 pub sorted_numbers : (n bits : ℕ) (items : List Item) (xs : List ℕ) → n ≤ 2 ^ bits → All (IsInside n) items → IsDealtBy number_of_pair (map (packed bits) (keys_of items)) xs → map (unpacked bits) xs ≡ dealt (pair_number bits) (2 ^ bits * 2 ^ bits) (keys_of items)
@@ -235,11 +227,7 @@ pub later_inside : (n : ℕ) (ks later : List Key) (k : Key) → ks ≡ k ∷ la
 later_inside n ks later k first inside = All-tail (IsKeyInside n) k later (All-same (IsKeyInside n) (k ∷ later) ks (sym first) inside)
 
 pub decided_counts : (edges : List Pair) (k : Key) (c d : Cleaned) → d ≡ decided edges k c → (d.repeats ≡ c.repeats) × (d.idle ≤ c.idle + 1)
-decided_counts edges k c d is = (ap (λ (e : Cleaned). e.repeats) is, rw is (go (removes edges k || adds edges k)))
-  where
-    go : (b : Bool) → c.idle + cond b 0 1 ≤ c.idle + 1
-    go true = omega arith
-    go false = omega arith
+decided_counts edges k c d is = grind (arith, nat_tests)
 
 -- a batch has no more keys than items
 pub length_sorted : (n bits : ℕ) (items : List Item) (xs : List ℕ) → n ≤ 2 ^ bits → All (IsInside n) items → IsDealtBy number_of_pair (map (packed bits) (keys_of items)) xs → length xs ≤ length items
@@ -255,11 +243,7 @@ sorted_inside n bits items xs enough inside is = rw (sorted_numbers n bits items
 
 walked_loops : (edges : List Pair) (loops : ℕ) (ks : List Key) (c : Cleaned) → walked edges ks (record c { loops = loops }) ≡ record (walked edges ks c) { loops = loops }
 walked_loops edges loops [] c = refl
-walked_loops edges loops (k ∷ ks) c = go (is_last_of_pair k ks) (walked_loops edges loops ks)
-  where
-    go : (b : Bool) → ((d : Cleaned) → walked edges ks (record d { loops = loops }) ≡ record (walked edges ks d) { loops = loops }) → walked edges ks (cond b (decided edges k (record c { loops = loops })) (repeated (record c { loops = loops }))) ≡ record (walked edges ks (cond b (decided edges k c) (repeated c))) { loops = loops }
-    go true rest = rest (decided edges k c)
-    go false rest = rest (repeated c)
+walked_loops edges loops (k ∷ ks) c = grind (arith, nat_tests, walked_loops edges loops ks)
 
 -- a walk that knows of loops
 pub walked_with_loops : (edges : List Pair) (loops : ℕ) (ks : List Key) → walked edges ks (record { removed = []; added = []; loops = loops; repeats = 0; idle = 0 }) ≡ record (walked edges ks no_effect) { loops = loops }
@@ -268,16 +252,7 @@ walked_with_loops edges loops ks = walked_loops edges loops ks no_effect
 -- a walk counts each key once at most
 walked_counts : (edges : List Pair) (ks : List Key) (c : Cleaned) → ((walked edges ks c).repeats ≤ c.repeats + length ks) × ((walked edges ks c).idle ≤ c.idle + length ks)
 walked_counts edges [] c = (omega arith, omega arith)
-walked_counts edges (k ∷ ks) c = go (is_last_of_pair k ks) (walked_counts edges ks)
-  where
-    go : (b : Bool) → ((d : Cleaned) → ((walked edges ks d).repeats ≤ d.repeats + length ks) × ((walked edges ks d).idle ≤ d.idle + length ks)) → ((walked edges ks (cond b (decided edges k c) (repeated c))).repeats ≤ c.repeats + length (k ∷ ks)) × ((walked edges ks (cond b (decided edges k c) (repeated c))).idle ≤ c.idle + length (k ∷ ks))
-    go true rest =
-        let counts = decided_counts edges k c (decided edges k c) refl in
-        let later = rest (decided edges k c) in
-        (omega (arith, later.0, counts.0), omega (arith, later.1, counts.1))
-    go false rest =
-        let later = rest (repeated c) in
-        (omega (arith, later.0), omega (arith, later.1))
+walked_counts edges (k ∷ ks) c = grind (arith, nat_tests, walked_counts edges ks, decided_counts)
 
 pub walk_counts : (edges : List Pair) (ks : List Key) (c : Cleaned) → c ≡ walked edges ks no_effect → (c.repeats ≤ length ks) × (c.idle ≤ length ks)
 walk_counts edges ks c is =
@@ -296,11 +271,7 @@ repeated_after c d = same_cleaned (repeated (followed c d)) (followed c (repeate
 
 walked_after : (edges : List Pair) (ks : List Key) (c d : Cleaned) → walked edges ks (followed c d) ≡ followed c (walked edges ks d)
 walked_after edges [] c d = refl
-walked_after edges (k ∷ ks) c d = go (is_last_of_pair k ks) (walked_after edges ks c)
-  where
-    go : (b : Bool) → ((e : Cleaned) → walked edges ks (followed c e) ≡ followed c (walked edges ks e)) → walked edges ks (cond b (decided edges k (followed c d)) (repeated (followed c d))) ≡ followed c (walked edges ks (cond b (decided edges k d) (repeated d)))
-    go true rest = ap (λ (e : Cleaned). walked edges ks e) (decided_after edges k c d) ∙ rest (decided edges k d)
-    go false rest = ap (λ (e : Cleaned). walked edges ks e) (repeated_after c d) ∙ rest (repeated d)
+walked_after edges (k ∷ ks) c d = grind (arith, nat_tests, walked_after edges ks c, decided_after, repeated_after)
 
 no_more : (c : Cleaned) → c ≡ followed c no_effect
 no_more c = same_cleaned c (followed c no_effect) (sym (append-nil c.removed)) (sym (append-nil c.added)) (omega arith) (omega arith) (omega arith)
@@ -339,11 +310,7 @@ module _ (edges : List Pair) (bits : ℕ) (xs front back : List ℕ) (at : IsPai
 
   -- both parts have such keys
   pub parts_are : (n : ℕ) → AreKeys n bits xs → AreKeys n bits front × AreKeys n bits back
-  parts_are n are =
-      let inside = all_parts (IsKeyInside n) (map (unpacked bits) front) (map (unpacked bits) back) (rw keys_parts at are.inside) in (
-        record { fits = are.fits; small = are.small; few = omega (arith, are.few, parts_length); inside = inside.0 },
-        record { fits = are.fits; small = are.small; few = omega (arith, are.few, parts_length); inside = inside.1 },
-      )
+  parts_are n are = grind (arith, nat_tests, all_parts, keys_parts, parts_length, are.inside, are.fits, are.small, are.few)
 
   module _ (c d : Cleaned) (first : c ≡ walked edges (map (unpacked bits) front) no_effect) (later : d ≡ walked edges (map (unpacked bits) back) no_effect) where
     -- the net effect of both parts

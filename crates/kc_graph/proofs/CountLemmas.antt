@@ -52,10 +52,7 @@ count_by-without p low x (y ∷ ys) up there =
 -- two tests that agree below n
 pub count_below_agree : (n : ℕ) (p q : ℕ → Bool) → ((k : ℕ) → k < n → p k ≡ q k) → count_below n p ≡ count_below n q
 count_below_agree zero p q same = refl
-count_below_agree (suc n) p q same =
-    let here : p n ≡ q n = same n (omega arith) in
-    let below : count_below n p ≡ count_below n q = count_below_agree n p q (λ k h. same k (omega arith)) in
-    rw (here, below) refl
+count_below_agree (suc n) p q same = grind (arith, nat_tests, count_below_agree n p q (λ k h. same k (omega arith)))
 
 bit_le : (a b : Bool) → (a ≡ true → b ≡ true) → cond a 1 0 ≤ cond b 1 0
 bit_le true b h = rw (h refl) (omega arith)
@@ -64,10 +61,7 @@ bit_le false b h = omega arith
 -- a test that passes wherever another does counts no less
 pub count_below-mono : (n : ℕ) (p q : ℕ → Bool) → ((k : ℕ) → k < n → p k ≡ true → q k ≡ true) → count_below n p ≤ count_below n q
 count_below-mono zero p q more = omega arith
-count_below-mono (suc n) p q more =
-    let here = bit_le (p n) (q n) (more n (omega arith)) in
-    let below = count_below-mono n p q (λ k h. more k (omega arith)) in
-    omega (arith, here, below)
+count_below-mono (suc n) p q more = grind (arith, nat_tests, count_below-mono n p q (λ k h. more k (omega arith)), bit_le)
 
 pub count_below-le : (n : ℕ) (p : ℕ → Bool) → count_below n p ≤ n
 count_below-le zero p = omega arith

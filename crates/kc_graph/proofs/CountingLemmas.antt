@@ -2,7 +2,7 @@
 use Rattle.std.proofs.Common.{ℕ, suc, ◌+◌, ◌≡◌, Bool, true, false, ◌||◌, ◌&&◌, cond, List, [], ◌∷◌, length, refl, ap, sym, ◌∙◌, arith, zero-add}
 use Rattle.std.proofs.lemmas.Bool.Decides.{nat_tests}
 use Rattle.std.proofs.lemmas.List.Elements.{All-head, All-tail}
-use Rattle.std.specs.Prelude.{All, not, filter, count_by, Option, Some, None}
+use Rattle.std.specs.Prelude.{All, not, filter, count_by, Option, Some}
 use Rattle.kc_graph.specs.declared.items.Item.{Item}
 use Rattle.kc_graph.specs.declared.items.Item.TheVariants.{Insert, Delete, Isolate}
 use Rattle.kc_graph.specs.Shape.{GraphShape, Pair, EdgesFrom, IsGraph, has_edge, insert_edge}
@@ -50,12 +50,7 @@ filter_agree p q (e ∷ es) same = rw (same e, filter_agree p q es same) refl
 
 -- an item that inserts nothing decides on no insertion
 no_insertion : (item : Item) (items : List Item) → is_insertion (Some item) ≡ false → (e : Pair) → is_insertion (deciding_item e (item ∷ items)) ≡ is_insertion (deciding_item e items)
-no_insertion item items none e = go (is_touched e items) refl (touches e item)
-  where
-    go : (b : Bool) → is_touched e items ≡ b → (t : Bool) → is_insertion (cond b (deciding_item e items) (cond t (Some item) None)) ≡ is_insertion (deciding_item e items)
-    go true is t = refl
-    go false is true = none ∙ sym (ap is_insertion (deciding_none e items is))
-    go false is false = sym (ap is_insertion (deciding_none e items is))
+no_insertion item items none e = grind (arith, nat_tests, deciding_none)
 
 ascend_added : (n : ℕ) (edges : List Pair) (items : List Item) → All (IsInside n) items → EdgesFrom n 0 0 (added_edges edges (proper_items items))
 ascend_added n edges items inside = edges_from_filter n 0 0 (λ e. not (has_edge e edges) && is_insertion (deciding_item e (proper_items items))) (inserted_pairs (proper_items items)) (edges_from_inserted n items inside)

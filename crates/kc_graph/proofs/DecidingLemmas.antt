@@ -1,10 +1,9 @@
 -- The keys that decide on their pairs: the same ones where the keys are dealt by their pairs.
-use Rattle.std.proofs.Common.{ℕ, zero, suc, ◌<◌, ◌≡◌, ◌==◌, Bool, true, false, cond, List, [], ◌∷◌, ◌++◌, refl, ap, ◌∙◌, inl, inr, arith}
-use Rattle.std.proofs.lemmas.Bool.{cases_Bool}
+use Rattle.std.proofs.Common.{ℕ, zero, suc, ◌<◌, ◌≡◌, ◌==◌, Bool, true, false, cond, List, [], ◌∷◌, ◌++◌, refl, ap, ◌∙◌, arith}
 use Rattle.std.proofs.lemmas.Bool.Decides.{nat_tests}
 use Rattle.std.proofs.lemmas.List.Elements.{All-head, All-tail}
 use Rattle.std.specs.List.{list_any}
-use Rattle.std.specs.Prelude.{All, filter}
+use Rattle.std.specs.Prelude.{All}
 use Rattle.kc_graph.specs.declared.keys.Key.{Key}
 use Rattle.kc_graph.specs.private.Buckets.{bucket, dealt}
 use Rattle.kc_graph.specs.private.Keys.{same_pair}
@@ -30,38 +29,13 @@ IsOfPair d = (k l : Key) → same_pair k l ≡ true → d k ≡ d l
 any_in_bucket : (d : Key → ℕ) (n : ℕ) (k : Key) → IsOfPair d → (d k == n) ≡ true → (ks : List Key) → list_any (same_pair k) (bucket d n ks) ≡ list_any (same_pair k) ks
 unfolding bucket
 any_in_bucket d n k of here [] = refl
-any_in_bucket d n k of here (l ∷ ks) = elim (cases_Bool (same_pair k l)) [
-  | inl same ↦
-      let e : d k ≡ d l = of k l same in
-      let there : (d l == n) ≡ true = grind (arith, nat_tests, here, e) in
-      rw (there, same) refl
-  | inr other ↦ go (d l == n) (any_in_bucket d n k of here ks) other
-]
-  where
-    go : (b : Bool) → list_any (same_pair k) (filter (λ y. d y == n) ks) ≡ list_any (same_pair k) ks → same_pair k l ≡ false → list_any (same_pair k) (cond b (l ∷ filter (λ y. d y == n) ks) (filter (λ y. d y == n) ks)) ≡ list_any (same_pair k) (l ∷ ks)
-    go true rest other = rw (other, rest) refl
-    go false rest other = rw (other, rest) refl
+any_in_bucket d n k of here (l ∷ ks) = grind (arith, nat_tests, any_in_bucket d n k of here ks)
 
 -- of the keys of a bucket the same decide
 deciding_in_bucket : (d : Key → ℕ) (n : ℕ) → IsOfPair d → (ks : List Key) → deciding_keys (bucket d n ks) ≡ bucket d n (deciding_keys ks)
 unfolding bucket
 deciding_in_bucket d n of [] = refl
-deciding_in_bucket d n of (k ∷ ks) =
-    let rest : deciding_keys (filter (λ y. d y == n) ks) ≡ filter (λ y. d y == n) (deciding_keys ks) = deciding_in_bucket d n of ks in
-    elim (cases_Bool (d k == n)) [
-      | inl here ↦
-          let found : list_any (same_pair k) (filter (λ y. d y == n) ks) ≡ list_any (same_pair k) ks = any_in_bucket d n k of here ks in
-          rw (here, found) (inside (list_any (same_pair k) ks) here rest)
-      | inr away ↦ rw away (outside (list_any (same_pair k) ks) away rest)
-    ]
-  where
-    inside : (b : Bool) → (d k == n) ≡ true → deciding_keys (filter (λ y. d y == n) ks) ≡ filter (λ y. d y == n) (deciding_keys ks) → cond b (deciding_keys (filter (λ y. d y == n) ks)) (k ∷ deciding_keys (filter (λ y. d y == n) ks)) ≡ filter (λ y. d y == n) (cond b (deciding_keys ks) (k ∷ deciding_keys ks))
-    inside true here rest = rest
-    inside false here rest = rw here (ap (λ l. k ∷ l) rest)
-
-    outside : (b : Bool) → (d k == n) ≡ false → deciding_keys (filter (λ y. d y == n) ks) ≡ filter (λ y. d y == n) (deciding_keys ks) → deciding_keys (filter (λ y. d y == n) ks) ≡ filter (λ y. d y == n) (cond b (deciding_keys ks) (k ∷ deciding_keys ks))
-    outside true away rest = rest
-    outside false away rest = rw away rest
+deciding_in_bucket d n of (k ∷ ks) = grind (arith, nat_tests, deciding_in_bucket d n of ks, any_in_bucket)
 
 none_of_others : (d : Key → ℕ) (n : ℕ) (k : Key) → IsOfPair d → d k < n → (ls : List Key) → All (λ l. d l ≡ n) ls → list_any (same_pair k) ls ≡ false
 none_of_others d n k of less [] at = refl
@@ -71,10 +45,7 @@ none_of_others d n k of less (l ∷ ls) at =
     rw (other here, none_of_others d n k of less ls (All-tail P l ls at)) refl
   where
     other : d l ≡ n → same_pair k l ≡ false
-    other here = elim (cases_Bool (same_pair k l)) [
-      | inl same ↦ absurd (omega (arith, of k l same, here, less))
-      | inr apart ↦ apart
-    ]
+    other here = grind (arith, nat_tests)
 
 any_append : (p : Key → Bool) (ks ls : List Key) → list_any p ls ≡ false → list_any p (ks ++ ls) ≡ list_any p ks
 any_append p [] ls none = none

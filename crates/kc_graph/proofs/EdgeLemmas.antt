@@ -1,5 +1,5 @@
 -- Lemmas on ascending lists of edges.
-use Rattle.std.proofs.Common.{ℕ, suc, zero, ◌+◌, ◌≤◌, ◌<◌, ◌≡◌, inl, inr, Bool, true, false, ◌||◌, ◌&&◌, cond, List, [], ◌∷◌, ◌++◌, length, refl, ap, sym, ◌∙◌, arith, subst}
+use Rattle.std.proofs.Common.{ℕ, suc, ◌+◌, ◌≤◌, ◌<◌, ◌≡◌, true, false, ◌||◌, ◌&&◌, List, [], ◌∷◌, ◌++◌, length, refl, ap, sym, ◌∙◌, arith, subst}
 use Rattle.std.proofs.lemmas.Bool.Decides.{nat_tests}
 use Rattle.std.specs.Prelude.{not}
 use Rattle.kc_graph.specs.Shape.{GraphShape, Pair, IsNotBefore, EdgesFrom, IsGraph, same_edge, has_edge, joined, insert_edge, remove_edge}
@@ -8,20 +8,11 @@ use Rattle.kc_graph.specs.Shape.{GraphShape, Pair, IsNotBefore, EdgesFrom, IsGra
 
 -- every pair is at or after the first
 pub not_before_first : (e : Pair) → IsNotBefore 0 0 e
-not_before_first e = go e.0 refl
-  where
-    go : (a : ℕ) → e.0 ≡ a → IsNotBefore 0 0 e
-    go zero is = inr (sym is, omega arith)
-    go (suc a) is = inl (omega arith)
+not_before_first e = grind (arith, nat_tests)
 
 pub edges_from_weaker : (n a b c d : ℕ) (es : List Pair) → IsNotBefore a b (c, d) → EdgesFrom n c d es → EdgesFrom n a b es
 edges_from_weaker n a b c d [] w up = tt
-edges_from_weaker n a b c d (e ∷ es) w up = (later, up.1, up.2, up.3)
-  where
-    later : IsNotBefore a b e
-    later = grind (arith, w, up.0)
-
--- has_edge
+edges_from_weaker n a b c d (e ∷ es) w up = grind (arith, nat_tests, up.1, up.2, up.3, up.0)
 
 -- ascending edges have none that is before their start
 pub has_edge_before : (n c d : ℕ) (e : Pair) (es : List Pair) → EdgesFrom n c d es → IsNotBefore e.0 (suc e.1) (c, d) → has_edge e es ≡ false
@@ -39,13 +30,7 @@ has_edge_turned n c d a b (f ∷ fs) up h = grind (arith, nat_tests, up.1, has_e
 -- an edge of a graph has its lesser vertex first and its vertices below n
 pub edge_inside : (n c d : ℕ) (e : Pair) (es : List Pair) → EdgesFrom n c d es → has_edge e es ≡ true → (e.0 < e.1) × (e.1 < n)
 edge_inside n c d e [] up there = absurd (cc)
-edge_inside n c d e (f ∷ fs) up there = go (same_edge e f) refl (edge_inside n f.0 (suc f.1) e fs up.3)
-  where
-    go : (b : Bool) → same_edge e f ≡ b → (has_edge e fs ≡ true → (e.0 < e.1) × (e.1 < n)) → (e.0 < e.1) × (e.1 < n)
-    go true is later = (grind (arith, nat_tests, is, up.1), grind (arith, nat_tests, is, up.2))
-    go false is later = later (rw is at there)
-
--- insert_edge
+edge_inside n c d e (f ∷ fs) up there = grind (arith, nat_tests, edge_inside n f.0 (suc f.1) e fs up.3, up.3, up.1, up.2)
 
 pub has_edge-insert_edge : (e f : Pair) (es : List Pair) → has_edge f (insert_edge e es) ≡ same_edge f e || has_edge f es
 has_edge-insert_edge e f [] = refl
@@ -68,14 +53,7 @@ has_edge-remove_edge e f (d ∷ ds) = grind (arith, nat_tests, has_edge-remove_e
 
 pub edges_from_remove : (n c d : ℕ) (e : Pair) (es : List Pair) → EdgesFrom n c d es → EdgesFrom n c d (remove_edge e es)
 edges_from_remove n c d e [] up = tt
-edges_from_remove n c d e (f ∷ fs) up =
-    let rest : EdgesFrom n f.0 (suc f.1) (remove_edge e fs) = edges_from_remove n f.0 (suc f.1) e fs up.3 in
-    let past : EdgesFrom n c d (remove_edge e fs) = edges_from_weaker n c d f.0 (suc f.1) (remove_edge e fs) (grind (arith, up.0)) rest in
-    go (same_edge e f) rest past
-  where
-    go : (b : Bool) → EdgesFrom n f.0 (suc f.1) (remove_edge e fs) → EdgesFrom n c d (remove_edge e fs) → EdgesFrom n c d (cond (not b) (f ∷ remove_edge e fs) (remove_edge e fs))
-    go true rest past = past
-    go false rest past = (up.0, up.1, up.2, rest)
+edges_from_remove n c d e (f ∷ fs) up = grind (arith, nat_tests, edges_from_remove n f.0 (suc f.1) e fs up.3, edges_from_weaker, up.3, up.0, up.1, up.2)
 
 pub remove_edge_absent : (e : Pair) (es : List Pair) → has_edge e es ≡ false → remove_edge e es ≡ es
 remove_edge_absent e [] absent = refl
@@ -89,48 +67,18 @@ length-remove_edge n c d e (f ∷ fs) up there =
 -- joined
 
 pub joined_comm : (v w : ℕ) (es : List Pair) → joined v w es ≡ joined w v es
-joined_comm v w es = go (has_edge (v, w) es) (has_edge (w, v) es)
-  where
-    go : (a b : Bool) → (a || b) ≡ (b || a)
-    go true true = refl
-    go true false = refl
-    go false true = refl
-    go false false = refl
+joined_comm v w es = grind (arith, nat_tests)
 
 -- no vertex shares an edge with itself
 pub joined_itself : (n c d v : ℕ) (es : List Pair) → EdgesFrom n c d es → joined v v es ≡ false
 joined_itself n c d v es up = rw (has_edge_turned n c d v v es up (omega arith)) refl
 
 pub joined_in_order : (n c d a b : ℕ) (es : List Pair) → EdgesFrom n c d es → a ≤ b → joined a b es ≡ has_edge (a, b) es
-joined_in_order n c d a b es up h = rw (has_edge_turned n c d a b es up h) (go (has_edge (a, b) es))
-  where
-    go : (x : Bool) → (x || false) ≡ x
-    go true = refl
-    go false = refl
-
-pub joined-insert_edge : (v w : ℕ) (e : Pair) (es : List Pair) → joined v w (insert_edge e es) ≡ (same_edge (v, w) e || same_edge (w, v) e) || joined v w es
-joined-insert_edge v w e es = grind (arith, nat_tests, has_edge-insert_edge e (v, w) es, has_edge-insert_edge e (w, v) es)
-
-pub joined-remove_edge : (v w : ℕ) (e : Pair) (es : List Pair) → joined v w (remove_edge e es) ≡ (not (same_edge (v, w) e) && has_edge (v, w) es) || (not (same_edge (w, v) e) && has_edge (w, v) es)
-joined-remove_edge v w e es = rw (has_edge-remove_edge e (v, w) es, has_edge-remove_edge e (w, v) es) refl
-
--- an edge more joins no less
-pub joined_after_insert : (v w : ℕ) (e : Pair) (es : List Pair) → joined v w es ≡ true → joined v w (insert_edge e es) ≡ true
-joined_after_insert v w e es there = grind (arith, nat_tests, there, joined-insert_edge v w e es)
-
--- an edge less joins no more
-pub joined_before_remove : (v w : ℕ) (e : Pair) (es : List Pair) → joined v w (remove_edge e es) ≡ true → joined v w es ≡ true
-joined_before_remove v w e es there = grind (arith, nat_tests, there, joined-remove_edge v w e es)
+joined_in_order n c d a b es up h = grind (arith, nat_tests, has_edge_turned)
 
 -- the vertices of an edge are below n
 pub joined_inside : (n c d v w : ℕ) (es : List Pair) → EdgesFrom n c d es → joined v w es ≡ true → (v < n) × (w < n)
-joined_inside n c d v w es up there = go (has_edge (v, w) es) refl
-  where
-    go : (b : Bool) → has_edge (v, w) es ≡ b → (v < n) × (w < n)
-    go true is = let at = edge_inside n c d (v, w) es up is in (omega (arith, at), at.1)
-    go false is = let at = edge_inside n c d (w, v) es up (rw is at there) in (at.1, omega (arith, at))
-
--- edges before others
+joined_inside n c d v w es up there = grind (arith, nat_tests, edge_inside)
 
 -- the edge that ends a beginning of ascending edges
 pub edges_from_at : (n c d : ℕ) (es : List Pair) (e : Pair) (rest : List Pair) → EdgesFrom n c d (es ++ e ∷ rest) → IsNotBefore c d e
@@ -142,20 +90,14 @@ edges_from_at n c d (f ∷ fs) e rest up =
 -- an edge after all others comes in at the end
 pub insert_edge_last : (n c d : ℕ) (es : List Pair) (e : Pair) (rest : List Pair) → EdgesFrom n c d (es ++ e ∷ rest) → insert_edge e es ≡ es ++ e ∷ []
 insert_edge_last n c d [] e rest up = refl
-insert_edge_last n c d (f ∷ fs) e rest up =
-    let after : IsNotBefore f.0 (suc f.1) e = edges_from_at n f.0 (suc f.1) fs e rest up.3 in
-    let later : insert_edge e fs ≡ fs ++ e ∷ [] = insert_edge_last n f.0 (suc f.1) fs e rest up.3 in
-    grind (arith, nat_tests)
+insert_edge_last n c d (f ∷ fs) e rest up = grind (arith, nat_tests, insert_edge_last n f.0 (suc f.1) fs e rest up.3, edges_from_at, up.3)
 
-same_pair : (e f : Pair) → e.0 ≡ f.0 → e.1 ≡ f.1 → e ≡ f
+pub same_pair : (e f : Pair) → e.0 ≡ f.0 → e.1 ≡ f.1 → e ≡ f
 same_pair e f first second = ap (λ (a : ℕ). (a, e.1)) first ∙ ap (λ (b : ℕ). (f.0, b)) second
 
 -- two ascending lists that begin with e and with f and have the same edges: e and f are one
 same_first : (n c d : ℕ) (e f : Pair) (es fs : List Pair) → EdgesFrom n c d (e ∷ es) → EdgesFrom n c d (f ∷ fs) → has_edge e (f ∷ fs) ≡ true → has_edge f (e ∷ es) ≡ true → e ≡ f
-same_first n c d e f es fs up vp e_there f_there =
-    let after = has_edge_before n f.0 (suc f.1) e fs vp.3 in
-    let before = has_edge_before n e.0 (suc e.1) f es up.3 in
-    same_pair e f (grind (arith, nat_tests, e_there, f_there, after, before)) (grind (arith, nat_tests, e_there, f_there, after, before))
+same_first n c d e f es fs up vp e_there f_there = grind (arith, nat_tests, has_edge_before, same_pair, vp.3, up.3)
 
 -- ascending edges are told by which edges are among them
 pub same_edges : (n c d : ℕ) (es fs : List Pair) → EdgesFrom n c d es → EdgesFrom n c d fs → ((e : Pair) → has_edge e es ≡ has_edge e fs) → es ≡ fs
@@ -172,11 +114,7 @@ same_edges n c d (e ∷ es) (f ∷ fs) up vp same =
     has_first g gs = grind (arith, nat_tests)
 
     rest_at : (g : Pair) → e ≡ f → EdgesFrom n e.0 (suc e.1) fs → has_edge g es ≡ has_edge g fs
-    rest_at g first later =
-        let told : (same_edge g e || has_edge g es) ≡ (same_edge g e || has_edge g fs) = same g ∙ ap (λ (x : Pair). same_edge g x || has_edge g fs) (sym first) in
-        let here = has_edge_before n e.0 (suc e.1) g es up.3 in
-        let there = has_edge_before n e.0 (suc e.1) g fs later in
-        grind (arith, nat_tests, told, here, there)
+    rest_at g first later = grind (arith, nat_tests, has_edge_before, up.3)
 
 pub same_graph : (g h : GraphShape) → IsGraph g → IsGraph h → g.vertices ≡ h.vertices → ((e : Pair) → has_edge e g.edges ≡ has_edge e h.edges) → g ≡ h
 same_graph g h is_g is_h size same =

@@ -1,9 +1,9 @@
 -- The rows of a graph after both halves of some edges came in, or left.
-use Rattle.std.proofs.Common.{ℕ, suc, ◌+◌, ◌-◌, ◌≤◌, ◌<◌, ◌≡◌, inl, inr, Bool, true, false, ◌||◌, ◌&&◌, List, [], ◌∷◌, length, get_or, refl, ap, sym, ◌∙◌, arith, subst, true≢false}
-use Rattle.std.proofs.lemmas.Bool.{cases_lt}
+use Rattle.std.proofs.Common.{ℕ, suc, ◌+◌, ◌-◌, ◌≤◌, ◌<◌, ◌≡◌, Bool, true, false, ◌||◌, ◌&&◌, List, [], ◌∷◌, length, get_or, refl, ap, sym, ◌∙◌, arith, subst, true≢false}
 use Rattle.std.proofs.lemmas.List.{ext_get_or}
 use Rattle.std.proofs.lemmas.List.Elements.{All-head, All-tail}
 use Rattle.std.specs.Prelude.{All, not}
+use Rattle.std.proofs.lemmas.Bool.Decides.{nat_tests}
 use Rattle.kc_graph.specs.Numbers.{RisesFrom, has_number}
 use Rattle.kc_graph.specs.Shape.{GraphShape, Pair, EdgesFrom, same_edge, has_edge, joined, insert_edge, remove_edge, with_edges, without_edges}
 use Rattle.kc_graph.specs.Changes.{CanAdd, CanRemove, AllAbsent}
@@ -117,10 +117,7 @@ module _ (n count : ℕ) (rows new : List (List ℕ)) (es halves : List Pair) (k
       high b d = refl
 
       sides : (v x : ℕ) → (not (joined v x es) && joined v x (edges_of 0 rows)) ≡ ((not (has_edge (v, x) es) && has_edge (v, x) (edges_of 0 rows)) || (not (has_edge (x, v) es) && has_edge (x, v) (edges_of 0 rows)))
-      sides v x = elim (cases_lt v x) [
-        | inl lt ↦ rw (one_way x v es up (omega arith), one_way x v (edges_of 0 rows) kept.rising (omega arith)) (low (has_edge (v, x) (edges_of 0 rows)) (has_edge (v, x) es))
-        | inr ge ↦ rw (one_way v x es up ge, one_way v x (edges_of 0 rows) kept.rising ge) (high (has_edge (x, v) (edges_of 0 rows)) (has_edge (x, v) es))
-      ]
+      sides v x = grind (arith, nat_tests, one_way, low, high, kept.rising)
 
   pub kept_taken : AreTaken 0 rows new halves → CanRemove (graph_of n rows) es → IsKept n new (count - length es)
   kept_taken taken can = rw (is_taken taken can) (parts_kept n count 0 0 rows es kept up can).0
@@ -161,18 +158,7 @@ module _ (n count : ℕ) (rows new : List (List ℕ)) (es halves : List Pair) (k
       lone e there false is = is
 
       apart : (v x : ℕ) → joined v x (edges_of 0 rows) ≡ true → joined v x es ≡ false
-      apart v x there = elim (cases_lt v x) [
-        | inl lt ↦
-            let here : has_edge (v, x) (edges_of 0 rows) ≡ true = first_of (has_edge (v, x) (edges_of 0 rows)) (has_edge (x, v) (edges_of 0 rows)) (one_way x v (edges_of 0 rows) kept.rising (omega arith)) there in
-            rw (lone (v, x) here (has_edge (v, x) es) refl, one_way x v es up (omega arith)) refl
-        | inr ge ↦
-            let here : has_edge (x, v) (edges_of 0 rows) ≡ true = rw (one_way v x (edges_of 0 rows) kept.rising ge) at there in
-            rw (one_way v x es up ge, lone (x, v) here (has_edge (x, v) es) refl) refl
-      ]
-        where
-          first_of : (a b : Bool) → b ≡ false → (a || b) ≡ true → a ≡ true
-          first_of true b none t = refl
-          first_of false b none t = absurd (true≢false (sym t ∙ none))
+      apart v x there = grind (arith, nat_tests, one_way, lone, true≢false, kept.rising)
 
 module _ (n count : ℕ) (rows new : List (List ℕ)) (es halves : List Pair) (kept : IsKept n rows count) (up : EdgesFrom n 0 0 es) (both : (v x : ℕ) → has_edge (v, x) halves ≡ joined v x es) where
   pub graph_given : AreGiven 0 rows new halves → CanAdd (graph_of n rows) es → graph_of n new ≡ with_edges (graph_of n rows) es

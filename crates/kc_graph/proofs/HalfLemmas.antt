@@ -1,38 +1,27 @@
 -- Lemmas on half-edges that come into rows, or leave them.
-use Rattle.std.proofs.Common.{ℕ, suc, zero, ◌+◌, ◌-◌, ◌≤◌, ◌<◌, ◌≡◌, ◌≢◌, inl, inr, ◌⊎◌, Bool, true, false, ◌||◌, ◌&&◌, cond, eqb, List, [], ◌∷◌, ◌++◌, length, get_or, set, take, drop, refl, ap, sym, ◌∙◌, arith, subst}
-use Rattle.std.proofs.lemmas.Bool.{cases_eq, cases_lt}
+use Rattle.std.proofs.Common.{ℕ, suc, zero, ◌+◌, ◌-◌, ◌≤◌, ◌<◌, ◌≡◌, ◌≢◌, inl, inr, ◌⊎◌, Bool, true, false, ◌||◌, ◌&&◌, List, [], ◌∷◌, ◌++◌, length, get_or, set, take, drop, refl, ap, sym, ◌∙◌, arith, subst}
+use Rattle.std.proofs.lemmas.Bool.{cases_eq}
 use Rattle.std.proofs.lemmas.Bool.Decides.{nat_tests}
 use Rattle.std.proofs.lemmas.List.{length-set, get_or-set_same, get_or-set_other, take_more, length-append, length-drop, length-take-le, get_or-take, get_or_append_left, get_or-append_right, take-append-drop}
 use Rattle.std.proofs.lemmas.List.Sorted.{list_any-IsPermutation}
 use Rattle.std.specs.List.{list_any}
 use Rattle.std.specs.List.Sorted.{IsPermutation}
 use Rattle.std.specs.Prelude.{filter, not, Result, Ok, Err, OnOk}
+use Rattle.std.proofs.Math.Bool.{or-false, or-true}
 use Rattle.kc_graph.specs.Numbers.{RisesFrom, has_number}
 use Rattle.kc_graph.specs.Shape.{Pair, same_edge, has_edge, joined}
 use Rattle.kc_graph.specs.private.Numbers.{put, without}
-use Rattle.kc_graph.specs.private.Halves.{has_second, SecondsRise, AreOf, AreInside, IsFirst, IsRun, AreGiven, AreGivenSome, AreTaken}
+use Rattle.kc_graph.specs.private.Halves.{has_second, SecondsRise, AreOf, AreInside, IsFirst, IsRun}
 use Rattle.kc_graph.proofs.NumberLemmas.{has_number-put}
 
 pub has_edge-append : (e : Pair) (es fs : List Pair) → has_edge e (es ++ fs) ≡ has_edge e es || has_edge e fs
 has_edge-append e [] fs = refl
-has_edge-append e (d ∷ ds) fs = regroup (same_edge e d) (has_edge-append e ds fs)
-  where
-    regroup : (b : Bool) → has_edge e (ds ++ fs) ≡ has_edge e ds || has_edge e fs → (b || has_edge e (ds ++ fs)) ≡ ((b || has_edge e ds) || has_edge e fs)
-    regroup true rest = refl
-    regroup false rest = rest
-
-or_true : (b : Bool) → b || true ≡ true
-or_true true = refl
-or_true false = refl
-
-or_false : (b : Bool) → b || false ≡ b
-or_false true = refl
-or_false false = refl
+has_edge-append e (d ∷ ds) fs = grind (arith, nat_tests, has_edge-append e ds fs)
 
 has_edge-push : (e f : Pair) (es : List Pair) → has_edge e (es ++ f ∷ []) ≡ has_edge e es || same_edge e f
-has_edge-push e f es = has_edge-append e es (f ∷ []) ∙ ap (λ b. has_edge e es || b) (or_false (same_edge e f))
+has_edge-push e f es = has_edge-append e es (f ∷ []) ∙ ap (λ b. has_edge e es || b) (or-false (same_edge e f))
 
-has_edge_any : (e : Pair) (es : List Pair) → has_edge e es ≡ list_any (same_edge e) es
+pub has_edge_any : (e : Pair) (es : List Pair) → has_edge e es ≡ list_any (same_edge e) es
 has_edge_any e [] = refl
 has_edge_any e (f ∷ fs) = ap (λ b. same_edge e f || b) (has_edge_any e fs)
 
@@ -52,13 +41,7 @@ turned_next es hs i v w e h is before =
 
 -- the halves at both ends of edges
 pub both_ends : (greater es : List Pair) (v w : ℕ) → has_edge (v, w) greater ≡ has_edge (w, v) es → has_edge (v, w) (greater ++ es) ≡ joined v w es
-both_ends greater es v w turned = has_edge-append (v, w) greater es ∙ ap (λ b. b || has_edge (v, w) es) turned ∙ swap (has_edge (w, v) es) (has_edge (v, w) es)
-  where
-    swap : (a b : Bool) → (a || b) ≡ (b || a)
-    swap true true = refl
-    swap true false = refl
-    swap false true = refl
-    swap false false = refl
+both_ends greater es v w turned = grind (arith, nat_tests, has_edge-append)
 
 -- two lists that are cut in two each
 pub in_parts : (e : Pair) (m k : ℕ) (gs hs : List Pair) → has_edge e (gs ++ hs) ≡ has_edge e (take m gs ++ take k hs) || has_edge e (drop m gs ++ drop k hs)
@@ -81,7 +64,7 @@ in_parts e m k gs hs =
 pub has_place : (hs : List Pair) (k : ℕ) → k < length hs → has_edge (get_or hs k (0, 0)) hs ≡ true
 has_place [] k lt = absurd (omega (arith, lt))
 has_place (h ∷ hs) zero lt = grind (arith, nat_tests)
-has_place (h ∷ hs) (suc k) lt = rw (has_place hs k (omega (arith, lt))) (or_true (same_edge (get_or hs k (0, 0)) h))
+has_place (h ∷ hs) (suc k) lt = rw (has_place hs k (omega (arith, lt))) (or-true (same_edge (get_or hs k (0, 0)) h))
 
 -- halves of one vertex
 
@@ -115,31 +98,14 @@ module _ (gs hs : List Pair) (v m k : ℕ) (le : m ≤ length gs) (le' : k ≤ l
 
   module _ (of : (i : ℕ) → i < m → (get_or gs i (0, 0)).0 ≡ v) (of' : (i : ℕ) → i < k → (get_or hs i (0, 0)).0 ≡ v) where
     of_run : AreOf v (take m gs ++ take k hs)
-    of_run i lt = elim (cases_lt i m) [
-      | inl front ↦ rw (at_front i front) (of i front)
-      | inr ge ↦ rw (at_back i ge (omega (arith, lt, length_run))) (of' (i - m) (omega (arith, lt, length_run, ge)))
-    ]
+    of_run i lt = grind (arith, nat_tests, at_front, at_back, length_run)
 
   module _ (up : (i : ℕ) → i + 1 < m → (get_or gs i (0, 0)).1 < (get_or gs (i + 1) (0, 0)).1) (up' : (i : ℕ) → i + 1 < k → (get_or hs i (0, 0)).1 < (get_or hs (i + 1) (0, 0)).1) (low : (i : ℕ) → i < m → (get_or gs i (0, 0)).1 < v) (high : (i : ℕ) → i < k → v < (get_or hs i (0, 0)).1) where
     run_rises : SecondsRise (take m gs ++ take k hs)
-    run_rises i lt = elim (cases_lt (i + 1) m) [
-      | inl front ↦ rw (at_front i (omega (arith, front)), at_front (i + 1) front) (up i front)
-      | inr back ↦ elim (cases_lt i m) [
-        | inl last ↦
-            let a : (get_or gs i (0, 0)).1 < v = low i last in
-            let b : v < (get_or hs ((i + 1) - m) (0, 0)).1 = high ((i + 1) - m) (omega (arith, lt, length_run, back, last)) in
-            rw (at_front i last, at_back (i + 1) back (omega (arith, lt, length_run))) (omega (arith, a, b))
-        | inr ge ↦
-            let next : (i + 1) - m ≡ (i - m) + 1 = omega (arith, ge) in
-            rw (at_back i ge (omega (arith, lt, length_run)), at_back (i + 1) back (omega (arith, lt, length_run)), next) (up' (i - m) (omega (arith, lt, length_run, ge)))
-      ]
-    ]
+    run_rises i lt = grind (arith, nat_tests, at_front, length_run, at_back)
 
   fewer_left : (0 < m) ⊎ (0 < k) → length (drop m gs ++ drop k hs) < length (gs ++ hs)
-  fewer_left some = rw (length-append (drop m gs) (drop k hs), length-append gs hs, length-drop m gs, length-drop k hs) (elim some [
-    | inl lt ↦ omega (arith, lt)
-    | inr lt ↦ omega (arith, lt)
-  ])
+  fewer_left some = grind (arith, nat_tests, length-append, length-drop)
 
 first_has : (v : ℕ) (hs : List Pair) → 0 < length hs → (get_or hs 0 (0, 0)).0 ≡ v → has_edge (v, (get_or hs 0 (0, 0)).1) hs ≡ true
 first_has v hs some is = subst (λ u. has_edge (u, (get_or hs 0 (0, 0)).1) hs ≡ true) is (has_place hs 0 some)
@@ -155,7 +121,7 @@ is_run gs hs v m k (inl first) le le' some some' of of' up up' low high = record
 }
 is_run gs hs v m k (inr first) le le' some some' of of' up up' low high = record {
   other = (get_or hs 0 (0, 0)).1;
-  some = has_edge-append (v, (get_or hs 0 (0, 0)).1) gs hs ∙ ap (λ b. has_edge (v, (get_or hs 0 (0, 0)).1) gs || b) (first_has v hs first.0 first.1) ∙ or_true (has_edge (v, (get_or hs 0 (0, 0)).1) gs);
+  some = has_edge-append (v, (get_or hs 0 (0, 0)).1) gs hs ∙ ap (λ b. has_edge (v, (get_or hs 0 (0, 0)).1) gs || b) (first_has v hs first.0 first.1) ∙ or-true (has_edge (v, (get_or hs 0 (0, 0)).1) gs);
   of = of_run gs hs v m k le le' of of';
   rising = run_rises gs hs v m k le le' up up' low high;
   all = λ e. in_parts e m k gs hs;
@@ -169,7 +135,7 @@ run_inside first n rest v run later r inside =
     (at.0, omega (arith, at.0, at.1), omega (arith, at.0))
 
 later_inside : (first n : ℕ) (rest run later : List Pair) → ((e : Pair) → has_edge e rest ≡ has_edge e run || has_edge e later) → AreInside first n rest → AreInside first n later
-later_inside first n rest run later all inside v x there = inside v x (all (v, x) ∙ ap (λ b. has_edge (v, x) run || b) there ∙ or_true (has_edge (v, x) run))
+later_inside first n rest run later all inside v x there = inside v x (all (v, x) ∙ ap (λ b. has_edge (v, x) run || b) there ∙ or-true (has_edge (v, x) run))
 
 -- halves come into rows, and `rest` is to come
 pub record IsGiving (first : ℕ) (old rows : List (List ℕ)) (rest halves : List Pair) : Type 0 where
@@ -179,27 +145,12 @@ pub record IsGiving (first : ℕ) (old rows : List (List ℕ)) (rest halves : Li
   pub kept : (v x : ℕ) → v < length old → has_number x (get_or old v []) ≡ true → has_number x (get_or rows v []) ≡ true
   pub has : (v x : ℕ) → v < length old → has_number x (get_or rows v []) || has_edge (first + v, x) rest ≡ has_number x (get_or old v []) || has_edge (first + v, x) halves
 
-pub giving_first : (first : ℕ) (rows : List (List ℕ)) (halves : List Pair) → AreInside first (length rows) halves → IsGiving first rows rows halves halves
-giving_first first rows halves inside = record {
-  sized = refl;
-  inside = inside;
-  rise = λ v h up. up;
-  kept = λ v x h there. there;
-  has = λ v x h. refl;
-}
-
 pub giving_next : (first : ℕ) (old rows : List (List ℕ)) (rest halves run later : List Pair) (v : ℕ) (row : List ℕ) → IsGiving first old rows rest halves → ((e : Pair) → has_edge e rest ≡ has_edge e run || has_edge e later) → AreOf (first + v) run → v < length rows → RisesFrom 0 row → ((x : ℕ) → has_number x row ≡ has_number x (get_or rows v []) || has_second x run) → IsGiving first old (set rows v row) later halves
 giving_next first old rows rest halves run later v row s all of h up new = record {
   sized = length-set rows v row ∙ s.sized;
   inside = later_inside first (length old) rest run later all s.inside;
-  rise = λ u lt before. elim (cases_eq u v) [
-    | inl e ↦ rw (e, get_or-set_same rows v row [] h) up
-    | inr ne ↦ rw (get_or-set_other rows v u row [] ne) (s.rise u lt before)
-  ];
-  kept = λ u x lt there. elim (cases_eq u v) [
-    | inl e ↦ rw (e, get_or-set_same rows v row [] h) (new x ∙ ap (λ b. b || has_second x run) (s.kept v x (rw e at lt) (rw e at there)))
-    | inr ne ↦ rw (get_or-set_other rows v u row [] ne) (s.kept u x lt there)
-  ];
+  rise = λ u lt before. grind (arith, nat_tests, get_or-set_same, get_or-set_other, s.rise);
+  kept = λ u x lt there. grind (arith, nat_tests, get_or-set_same, get_or-set_other, s.kept);
   has = λ u x lt. elim (cases_eq u v) [
     | inl e ↦ rw (e, get_or-set_same rows v row [] h, new x) (regroup (has_number x (get_or rows v [])) (has_second x run) (has_edge (first + v, x) later) ∙ told v x (of_same (first + v) x run of) ∙ s.has v x (rw e at lt))
     | inr ne ↦ rw (get_or-set_other rows v u row [] ne) (told u x (of_other (first + v) (first + u) x run of (λ e. ne (omega (arith, e)))) ∙ s.has u x lt)
@@ -213,21 +164,6 @@ giving_next first old rows rest halves run later v row s all of h up new = recor
     told : (u x : ℕ) {b : Bool} → has_edge (first + u, x) run ≡ b → (has_number x (get_or rows u []) || (b || has_edge (first + u, x) later)) ≡ (has_number x (get_or rows u []) || has_edge (first + u, x) rest)
     told u x is = ap (λ c. has_number x (get_or rows u []) || c) (ap (λ c. c || has_edge (first + u, x) later) (sym is) ∙ sym (all (first + u, x)))
 
-pub given : (first : ℕ) (old rows : List (List ℕ)) (rest halves : List Pair) → IsGiving first old rows rest halves → rest ≡ [] → AreGiven first old rows halves
-given first old rows rest halves s none = record {
-  sized = s.sized;
-  rise = s.rise;
-  has = λ v x h. sym (or_false (has_number x (get_or rows v []))) ∙ ap (λ (es : List Pair). has_number x (get_or rows v []) || has_edge (first + v, x) es) (sym none) ∙ s.has v x h;
-}
-
-pub given_some : (first : ℕ) (old rows : List (List ℕ)) (rest halves : List Pair) → IsGiving first old rows rest halves → AreGivenSome first old rows halves
-given_some first old rows rest halves s = record {
-  sized = s.sized;
-  rise = s.rise;
-  kept = s.kept;
-  only = λ v x h there. sym (s.has v x h) ∙ ap (λ b. b || has_edge (first + v, x) rest) there;
-}
-
 -- halves leave rows, and `rest` is to leave
 pub record IsTaking (first : ℕ) (old rows : List (List ℕ)) (rest halves : List Pair) : Type 0 where
   pub sized : length rows ≡ length old
@@ -235,47 +171,15 @@ pub record IsTaking (first : ℕ) (old rows : List (List ℕ)) (rest halves : Li
   pub rise : (v : ℕ) → v < length old → RisesFrom 0 (get_or old v []) → RisesFrom 0 (get_or rows v [])
   pub has : (v x : ℕ) → v < length old → not (has_edge (first + v, x) rest) && has_number x (get_or rows v []) ≡ not (has_edge (first + v, x) halves) && has_number x (get_or old v [])
 
-pub taking_first : (first : ℕ) (rows : List (List ℕ)) (halves : List Pair) → AreInside first (length rows) halves → IsTaking first rows rows halves halves
-taking_first first rows halves inside = record {
-  sized = refl;
-  inside = inside;
-  rise = λ v h up. up;
-  has = λ v x h. refl;
-}
-
 has_number-filter : (x : ℕ) (p : ℕ → Bool) (xs : List ℕ) → has_number x (filter p xs) ≡ p x && has_number x xs
-has_number-filter x p [] = and_false (p x)
-  where
-    and_false : (b : Bool) → false ≡ b && false
-    and_false true = refl
-    and_false false = refl
-has_number-filter x p (y ∷ ys) = elim (cases_eq y x) [
-  | inl e ↦ rw (e) (at (p x) refl (has_number-filter x p ys))
-  | inr ne ↦ other (p y) (has_number-filter x p ys) (differ ne)
-]
-  where
-    open_test : (z : ℕ) → eqb z z ≡ true
-    open_test z = grind (arith, nat_tests)
-
-    differ : y ≢ x → eqb y x ≡ false
-    differ ne = grind (arith, nat_tests, ne)
-
-    at : (b : Bool) → p x ≡ b → has_number x (filter p ys) ≡ p x && has_number x ys → has_number x (cond (p x) (x ∷ filter p ys) (filter p ys)) ≡ p x && (eqb x x || has_number x ys)
-    at true is rest = rw (is, open_test x) refl
-    at false is rest = rw is (rest ∙ ap (λ b. b && has_number x ys) is)
-
-    other : (b : Bool) → has_number x (filter p ys) ≡ p x && has_number x ys → eqb y x ≡ false → has_number x (cond b (y ∷ filter p ys) (filter p ys)) ≡ p x && (eqb y x || has_number x ys)
-    other true rest ne = rw ne rest
-    other false rest ne = rw ne rest
+has_number-filter x p [] = grind (arith, nat_tests)
+has_number-filter x p (y ∷ ys) = grind (arith, nat_tests, has_number-filter x p ys)
 
 pub taking_next : (first : ℕ) (old rows : List (List ℕ)) (rest halves run later : List Pair) (v : ℕ) (row : List ℕ) → IsTaking first old rows rest halves → ((e : Pair) → has_edge e rest ≡ has_edge e run || has_edge e later) → AreOf (first + v) run → v < length rows → RisesFrom 0 row → row ≡ filter (λ x. not (has_second x run)) (get_or rows v []) → IsTaking first old (set rows v row) later halves
 taking_next first old rows rest halves run later v row s all of h up new = record {
   sized = length-set rows v row ∙ s.sized;
   inside = later_inside first (length old) rest run later all s.inside;
-  rise = λ u lt before. elim (cases_eq u v) [
-    | inl e ↦ rw (e, get_or-set_same rows v row [] h) up
-    | inr ne ↦ rw (get_or-set_other rows v u row [] ne) (s.rise u lt before)
-  ];
+  rise = λ u lt before. grind (arith, nat_tests, get_or-set_same, get_or-set_other, s.rise);
   has = λ u x lt. elim (cases_eq u v) [
     | inl e ↦ rw (e, get_or-set_same rows v row [] h, new, has_number-filter x (λ y. not (has_second y run)) (get_or rows v [])) (regroup (has_number x (get_or rows v [])) (has_second x run) (has_edge (first + v, x) later) ∙ told v x (of_same (first + v) x run of) ∙ s.has v x (rw e at lt))
     | inr ne ↦ rw (get_or-set_other rows v u row [] ne) (told u x (of_other (first + v) (first + u) x run of (λ e. ne (omega (arith, e)))) ∙ s.has u x lt)
@@ -291,13 +195,6 @@ taking_next first old rows rest halves run later v row s all of h up new = recor
     told : (u x : ℕ) {b : Bool} → has_edge (first + u, x) run ≡ b → (not (b || has_edge (first + u, x) later) && has_number x (get_or rows u [])) ≡ (not (has_edge (first + u, x) rest) && has_number x (get_or rows u []))
     told u x is = ap (λ c. not c && has_number x (get_or rows u [])) (ap (λ c. c || has_edge (first + u, x) later) (sym is) ∙ sym (all (first + u, x)))
 
-pub taken : (first : ℕ) (old rows : List (List ℕ)) (rest halves : List Pair) → IsTaking first old rows rest halves → rest ≡ [] → AreTaken first old rows halves
-taken first old rows rest halves s none = record {
-  sized = s.sized;
-  rise = s.rise;
-  has = λ v x h. ap (λ (es : List Pair). not (has_edge (first + v, x) es) && has_number x (get_or rows v [])) (sym none) ∙ s.has v x h;
-}
-
 pub on_ok : {A E : Type 0} (r : Result A E) (P Q : Type 0) → (P → Q) → OnOk r P → OnOk r Q
 on_ok (Ok x) P Q then p = then p
 on_ok (Err e) P Q then p = tt
@@ -305,18 +202,11 @@ on_ok (Err e) P Q then p = tt
 -- a single half comes into a row
 pub given_one : (row new : List ℕ) (hs : List Pair) (h d : Pair) (w : ℕ) → 1 ≤ length hs → length hs < 2 → h ≡ get_or hs 0 d → w ≡ h.1 → new ≡ put w row → (x : ℕ) → has_number x new ≡ has_number x row || has_second x hs
 given_one row new [] h d w some few is w_is new_is x = absurd (omega (arith, some))
-given_one row new (g ∷ []) h d w some few is w_is new_is x =
-    let same : w ≡ g.1 = w_is ∙ ap (λ (p : Pair). p.1) is in
-    let put_is : has_number x new ≡ eqb w x || has_number x row = ap (has_number x) new_is ∙ has_number-put x w row in
-    grind (arith, nat_tests, same, put_is)
+given_one row new (g ∷ []) h d w some few is w_is new_is x = grind (arith, nat_tests, has_number-put)
 given_one row new (g ∷ f ∷ fs) h d w some few is w_is new_is x = absurd (omega (arith, few))
 
 -- a single half leaves a row
 pub taken_one : (row new : List ℕ) (hs : List Pair) (w : ℕ) → 1 ≤ length hs → length hs < 2 → w ≡ (get_or hs 0 (0, 0)).1 → new ≡ without w row → new ≡ filter (λ x. not (has_second x hs)) row
 taken_one row new [] w some few is new_is = absurd (omega (arith, some))
-taken_one row new (g ∷ []) w some few is new_is = new_is ∙ same row
-  where
-    same : (xs : List ℕ) → without w xs ≡ filter (λ x. not (has_second x (g ∷ []))) xs
-    same [] = refl
-    same (y ∷ ys) = grind (arith, nat_tests, is, same ys)
+taken_one row new (g ∷ []) w some few is new_is = grind (arith, nat_tests)
 taken_one row new (g ∷ f ∷ fs) w some few is new_is = absurd (omega (arith, few))

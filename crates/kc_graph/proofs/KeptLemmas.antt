@@ -1,7 +1,7 @@
 -- What the rows of a graph keep, over plain lists.
-use Rattle.std.proofs.Common.{ℕ, ◌+◌, ◌-◌, ◌≤◌, ◌<◌, ◌≡◌, ◌≢◌, inl, inr, true, false, List, [], length, get_or, set, replicate, ap, sym, ◌∙◌, arith}
+use Rattle.std.proofs.Common.{ℕ, ◌+◌, ◌-◌, ◌≤◌, ◌<◌, ◌≡◌, ◌≢◌, true, false, List, [], length, get_or, set, replicate, ap, sym, ◌∙◌, arith}
 use Rattle.std.proofs.lemmas.List.{length-set, length-replicate, get_or-set_same, get_or-set_other, get_or-replicate, set-set, set-get_or}
-use Rattle.std.proofs.lemmas.Bool.{cases_eq}
+use Rattle.std.proofs.lemmas.Bool.Decides.{nat_tests}
 use Rattle.kc_graph.specs.declared.limits.TheConstants.{MAX_VERTICES, MAX_EDGES}
 use Rattle.kc_graph.specs.Numbers.{has_number}
 use Rattle.kc_graph.specs.private.Numbers.{put, without}
@@ -14,17 +14,7 @@ use Rattle.kc_graph.proofs.NeighbourLemmas.{has_number-neighbours_of, neighbours
 use Rattle.kc_graph.proofs.RowLemmas.{edges_of_empty, edges_of_put_above, edges_of_put_below, edges_of_without_above, edges_of_without_below}
 
 pub kept_empty : (n : ℕ) → 1 ≤ n → n ≤ MAX_VERTICES → IsKept n (replicate n []) 0
-kept_empty n positive small =
-    let none : edges_of 0 (replicate n []) ≡ [] = edges_of_empty 0 n in
-    record {
-      positive = positive;
-      small = small;
-      sized = length-replicate n [];
-      rising = rw none tt;
-      rows_are = λ v h. get_or-replicate n v [] [] h ∙ ap (neighbours_of v) (sym none);
-      counted = ap length none;
-      few = omega arith;
-    }
+kept_empty n positive small = grind (arith, nat_tests, edges_of_empty, length-replicate, get_or-replicate)
 
 -- the greater vertex of an edge is in the row of the lesser one exactly where the edge is there
 pub has_number-row : (n count : ℕ) (e : Pair) (rows : List (List ℕ)) → IsKept n rows count → e.0 < e.1 → e.1 < n → has_number e.1 (get_or rows e.0 []) ≡ has_edge e (edges_of 0 rows)
@@ -33,15 +23,7 @@ has_number-row n count e rows kept h below =
 
 -- two rows are set, and each row is its vertex's neighbours in other edges
 rows_set : (n a b : ℕ) (rows : List (List ℕ)) (low high : List ℕ) (es fs : List Pair) → a ≢ b → a < length rows → b < length rows → ((v : ℕ) → v < n → get_or rows v [] ≡ neighbours_of v es) → low ≡ neighbours_of a fs → high ≡ neighbours_of b fs → ((v : ℕ) → v ≢ a → v ≢ b → neighbours_of v fs ≡ neighbours_of v es) → (v : ℕ) → v < n → get_or (set (set rows a low) b high) v [] ≡ neighbours_of v fs
-rows_set n a b rows low high es fs apart in_a in_b are low_is high_is others v at =
-    elim (cases_eq v b) [
-      | inl e ↦
-          rw e (get_or-set_same (set rows a low) b high [] (rw length-set in_b) ∙ high_is)
-      | inr not_b ↦ get_or-set_other (set rows a low) b v high [] not_b ∙ elim (cases_eq v a) [
-        | inl e ↦ rw e (get_or-set_same rows a low [] in_a ∙ low_is)
-        | inr not_a ↦ get_or-set_other rows a v low [] not_a ∙ are v at ∙ sym (others v not_a not_b)
-      ]
-    ]
+rows_set n a b rows low high es fs apart in_a in_b are low_is high_is others v at = grind (arith, nat_tests, get_or-set_same, length-set, get_or-set_other)
 
 module _ (n count : ℕ) (e : Pair) (rows : List (List ℕ)) (kept : IsKept n rows count) (order : e.0 < e.1) (below : e.1 < n) where
   -- the row of the greater vertex is not the first that is set
@@ -106,8 +88,4 @@ module _ (n count : ℕ) (e : Pair) (rows : List (List ℕ)) (kept : IsKept n ro
 
 -- a second row that could not grow: what was put into the first is taken out again
 pub undone : (a b : ℕ) (rows : List (List ℕ)) (r1 r2 r3 : List ℕ) → a < b → b < length rows → has_number b (get_or rows a []) ≡ false → r1 ≡ put b (get_or rows a []) → r2 ≡ get_or (set rows a r1) b [] → r3 ≡ without b (get_or (set (set rows a r1) b r2) a []) → set (set (set rows a r1) b r2) a r3 ≡ rows
-undone a b rows r1 r2 r3 h below absent is1 is2 is3 =
-    let second : set (set rows a r1) b r2 ≡ set rows a r1 = ap (λ (r : List ℕ). set (set rows a r1) b r) is2 ∙ set-get_or (set rows a r1) b [] in
-    let first : get_or (set (set rows a r1) b r2) a [] ≡ r1 = ap (λ (rs : List (List ℕ)). get_or rs a []) second ∙ get_or-set_same rows a r1 [] (omega arith) in
-    let back : r3 ≡ get_or rows a [] = is3 ∙ ap (without b) first ∙ ap (without b) is1 ∙ without-put b (get_or rows a []) absent in
-    ap (λ (rs : List (List ℕ)). set rs a r3) second ∙ set-set rows a r1 r3 ∙ ap (λ (r : List ℕ). set rows a r) back ∙ set-get_or rows a []
+undone a b rows r1 r2 r3 h below absent is1 is2 is3 = grind (arith, nat_tests, set-get_or, get_or-set_same, without-put, set-set)

@@ -10,6 +10,7 @@ use Rattle.std.specs.List.{list_any}
 use Rattle.std.specs.List.Sorted.{IsPermutation, IsSorted}
 use Rattle.std.specs.Ordering.{is_lt}
 use Rattle.std.specs.Prelude.{All, not, filter, count_by, Option, Some, None}
+use Rattle.std.proofs.Math.Bool.{and-false, or-false}
 use Rattle.kc_graph.specs.declared.items.Item.{Item}
 use Rattle.kc_graph.specs.declared.items.Item.TheVariants.{Insert, Delete, Isolate}
 use Rattle.kc_graph.specs.declared.keys.Key.{Key}
@@ -21,7 +22,7 @@ use Rattle.kc_graph.specs.Cleaning.{IsInside, is_loop, proper_items, pair_of, ho
 use Rattle.kc_graph.specs.private.EdgeLists.{pair_cmp}
 use Rattle.kc_graph.specs.private.Keys.{is_pairless, key_at, key_of, repeated}
 use Rattle.kc_graph.specs.Keys.{edge_of, removes, adds, decided}
-use Rattle.kc_graph.specs.private.Later.{is_noted, is_free_at, isolated, untouched_at, IsOnce, Settles, ComesTo}
+use Rattle.kc_graph.specs.private.Later.{is_noted, is_free_at, isolated, untouched_at, IsOnce, IsProperEffect, IsNetEffect}
 use Rattle.kc_graph.proofs.CountLemmas.{count_by-cons}
 use Rattle.kc_graph.proofs.EdgeLemmas.{not_before_first, has_edge_before, edge_inside, same_edges}
 use Rattle.kc_graph.proofs.EdgeListLemmas.{edge_is, has_edge-filter, edges_from_filter}
@@ -29,6 +30,8 @@ use Rattle.kc_graph.proofs.DecidingLemmas.{list_any_agree}
 use Rattle.kc_graph.proofs.BatchLemmas.{deciding_none, inserted_if_decided, edges_from_inserted, key_touches, key_repeats, key_is_idle, key_inserts, inserts}
 use Rattle.kc_graph.proofs.KeyLemmas.{key_found}
 use Rattle.kc_graph.proofs.CleaningLemmas.{same_cleaned}
+use Rattle.kc_graph.proofs.DealtLemmas.{All-both}
+use Rattle.kc_graph.proofs.HalfLemmas.{has_edge_any}
 
 -- counts
 
@@ -46,14 +49,7 @@ has_edge-append e (f ∷ es) fs = grind (arith, nat_tests, has_edge-append e es 
 
 count_absent : (e : Pair) (es : List Pair) → has_edge e es ≡ false → count_by (same_edge e) es ≡ 0
 count_absent e [] absent = refl
-count_absent e (f ∷ fs) absent =
-    let split = count_by-cons (same_edge e) f fs in
-    let rest : has_edge e fs ≡ false → count_by (same_edge e) fs ≡ 0 = count_absent e fs in
-    split ∙ go (same_edge e f) absent rest
-  where
-    go : (b : Bool) → (b || has_edge e fs) ≡ false → (has_edge e fs ≡ false → count_by (same_edge e) fs ≡ 0) → cond b 1 0 + count_by (same_edge e) fs ≡ 0
-    go true h rest = absurd (cc)
-    go false h rest = rw (rest h) refl
+count_absent e (f ∷ fs) absent = grind (arith, nat_tests, count_absent e fs, count_by-cons)
 
 count_append : (e : Pair) (es fs : List Pair) → count_by (same_edge e) (es ++ fs) ≡ count_by (same_edge e) es + count_by (same_edge e) fs
 count_append e [] fs = sym (zero-add (count_by (same_edge e) fs))
@@ -64,11 +60,7 @@ once_none : IsOnce []
 once_none e = omega arith
 
 once_one : (f : Pair) → IsOnce (f ∷ [])
-once_one f e = let split = count_by-cons (same_edge e) f [] in go (same_edge e f) split
-  where
-    go : (b : Bool) → count_by (same_edge e) (f ∷ []) ≡ cond b 1 0 + 0 → count_by (same_edge e) (f ∷ []) ≤ 1
-    go true split = omega arith
-    go false split = omega arith
+once_one f e = grind (arith, nat_tests, count_by-cons)
 
 once_append : (es fs : List Pair) → IsOnce es → IsOnce fs → ((e : Pair) → has_edge e fs ≡ true → has_edge e es ≡ false) → IsOnce (es ++ fs)
 once_append es fs once more apart e = go (has_edge e fs) refl
@@ -122,9 +114,6 @@ none_counted e (f ∷ fs) h = go (same_edge e f) refl (λ fails. none_counted e 
     go true is rest = let one = count_first (same_edge e) f fs is in absurd (omega arith)
     go false is rest = All-cons (λ g. same_edge e g ≡ false) f fs is (rest is)
 
-both : {X : Type 0} (P Q : X → Type 0) (xs : List X) → All P xs → All Q xs → All (λ x. P x × Q x) xs
-both P Q xs p q k d h = (p k d h, q k d h)
-
 edges_from_ascend : (n c d : ℕ) (es : List Pair) → Ascend es → IsOnce es → All (λ e. (e.0 < e.1) × (e.1 < n)) es → All (IsNotBefore c d) es → EdgesFrom n c d es
 edges_from_ascend n c d [] up once inside from = tt
 edges_from_ascend n c d (e ∷ es) up once inside from =
@@ -137,15 +126,11 @@ edges_from_ascend n c d (e ∷ es) up once inside from =
       here.0,
       here.1,
       edges_from_ascend n e.0 (suc e.1) es up.1 fewer (All-tail P e es inside)
-          (All-weaker (λ f. IsNotBefore e.0 e.1 f × (same_edge e f ≡ false)) (IsNotBefore e.0 (suc e.1)) (λ f h. grind (arith, nat_tests, h.0, h.1)) es (both (IsNotBefore e.0 e.1) (λ f. same_edge e f ≡ false) es up.0 (none_counted e es none))),
+          (All-weaker (λ f. IsNotBefore e.0 e.1 f × (same_edge e f ≡ false)) (IsNotBefore e.0 (suc e.1)) (λ f h. grind (arith, nat_tests, h.0, h.1)) es (All-both (IsNotBefore e.0 e.1) (λ f. same_edge e f ≡ false) es up.0 (none_counted e es none))),
     )
   where
     fewer : IsOnce es
     fewer f = omega (arith, count_by-cons (same_edge f) e es, once f)
-
-has_edge_any : (e : Pair) (es : List Pair) → has_edge e es ≡ list_any (same_edge e) es
-has_edge_any e [] = refl
-has_edge_any e (f ∷ fs) = rw (has_edge_any e fs) refl
 
 all_there : (es : List Pair) (P : Pair → Type 0) → ((e : Pair) → has_edge e es ≡ true → P e) → All P es
 all_there [] P there = All-nil P
@@ -174,30 +159,18 @@ sorted_edges n es fs gs once same up ascend agree =
 
 -- an item that touches no pair but those that are touched later changes no decision
 pub decides_as_later : (e : Pair) (item : Item) (items : List Item) → (is_touched e items ≡ false → touches e item ≡ false) → deciding_item e (item ∷ items) ≡ deciding_item e items
-decides_as_later e item items none = go (is_touched e items) refl
-  where
-    go : (b : Bool) → is_touched e items ≡ b → cond b (deciding_item e items) (cond (touches e item) (Some item) None) ≡ deciding_item e items
-    go true is = refl
-    go false is = rw (none is) (sym (deciding_none e items is))
-
-and_false : (b : Bool) → (b && false) ≡ false
-and_false true = refl
-and_false false = refl
-
-or_false : (b : Bool) → (b || false) ≡ b
-or_false true = refl
-or_false false = refl
+decides_as_later e item items none = grind (arith, nat_tests, deciding_none)
 
 -- an edge that no later item touches is in neither list
-untouched_not_removed : (edges : List Pair) (items : List Item) (l : Later) (e : Pair) → Settles edges items l → is_touched e items ≡ false → has_edge e l.cleaned.removed ≡ false
+untouched_not_removed : (edges : List Pair) (items : List Item) (l : Later) (e : Pair) → IsProperEffect edges items l → is_touched e items ≡ false → has_edge e l.cleaned.removed ≡ false
 untouched_not_removed edges items l e s none = s.removed e ∙ ap (λ (o : Option Item). takes_out o && has_edge e edges) (deciding_none e items none)
 
-untouched_not_added : (edges : List Pair) (items : List Item) (l : Later) (e : Pair) → Settles edges items l → is_touched e items ≡ false → has_edge e l.cleaned.added ≡ false
+untouched_not_added : (edges : List Pair) (items : List Item) (l : Later) (e : Pair) → IsProperEffect edges items l → is_touched e items ≡ false → has_edge e l.cleaned.added ≡ false
 untouched_not_added edges items l e s none = s.added e ∙ ap (λ (o : Option Item). is_insertion o && not (has_edge e edges)) (deciding_none e items none)
 
 -- no items
-pub comes_to_none : (edges : List Pair) (c : Cleaned) (t : Touched) → c ≡ record { removed = []; added = []; loops = 0; repeats = 0; idle = 0 } → t.pairs.keys ≡ [] → t.isolated.keys ≡ [] → ComesTo edges [] (record { cleaned = c; touched = t })
-comes_to_none edges c t is pairs vertices = record {
+pub net_effect_none : (edges : List Pair) (c : Cleaned) (t : Touched) → c ≡ record { removed = []; added = []; loops = 0; repeats = 0; idle = 0 } → t.pairs.keys ≡ [] → t.isolated.keys ≡ [] → IsNetEffect edges [] (record { cleaned = c; touched = t })
+net_effect_none edges c t is pairs vertices = record {
   loops = ap (λ (c : Cleaned). c.loops) is;
   others = record {
     noted = λ e. rw (pairs, vertices) refl;
@@ -209,23 +182,6 @@ comes_to_none edges c t is pairs vertices = record {
     idle = ap (λ (c : Cleaned). c.idle) is;
   };
 }
-
--- a loop
-pub comes_to_loop : (edges : List Pair) (item : Item) (items : List Item) (old new : Later) → is_loop item ≡ true → ComesTo edges items old → new.cleaned ≡ record old.cleaned { loops = old.cleaned.loops + 1 } → new.touched ≡ old.touched → ComesTo edges (item ∷ items) new
-comes_to_loop edges item items old new loop s is same = record {
-  loops = ap (λ (c : Cleaned). c.loops) is ∙ omega (arith, count_first is_loop item items loop, s.loops);
-  others = rw loop (record {
-    noted = λ e. rw same (s.others.noted e);
-    removed = λ e. rw is (s.others.removed e);
-    removed_once = rw is s.others.removed_once;
-    added = λ e. rw is (s.others.added e);
-    added_once = rw is s.others.added_once;
-    repeats = ap (λ (c : Cleaned). c.repeats) is ∙ s.others.repeats;
-    idle = ap (λ (c : Cleaned). c.idle) is ∙ s.others.idle;
-  });
-}
-
--- an insertion or deletion of a pair
 
 not_loop : (item : Item) → is_pairless item ≡ false → is_loop item ≡ false
 not_loop (Insert u v) paired = paired
@@ -243,25 +199,19 @@ insertion_item (Delete u v) = refl
 insertion_item (Isolate v) = refl
 
 has_edge_pushed : (e f : Pair) (b : Bool) (es : List Pair) → has_edge e (cond b (es ++ f ∷ []) es) ≡ ((same_edge e f && b) || has_edge e es)
-has_edge_pushed e f true es = has_edge-append e es (f ∷ []) ∙ turn (has_edge e es) (same_edge e f)
-  where
-    turn : (a b : Bool) → (a || (b || false)) ≡ ((b && true) || a)
-    turn true true = refl
-    turn true false = refl
-    turn false true = refl
-    turn false false = refl
-has_edge_pushed e f false es = sym (ap (λ b. b || has_edge e es) (and_false (same_edge e f)))
+has_edge_pushed e f true es = grind (arith, nat_tests, has_edge-append)
+has_edge_pushed e f false es = sym (ap (λ b. b || has_edge e es) (and-false (same_edge e f)))
 
 once_pushed : (f : Pair) (b : Bool) (es : List Pair) → IsOnce es → has_edge f es ≡ false → IsOnce (cond b (es ++ f ∷ []) es)
 once_pushed f true es once absent = once_append es (f ∷ []) once (once_one f) apart
   where
     apart : (e : Pair) → (same_edge e f || false) ≡ true → has_edge e es ≡ false
-    apart e h = let same : e ≡ f = edge_is e f (sym (or_false (same_edge e f)) ∙ h) in ap (λ g. has_edge g es) same ∙ absent
+    apart e h = let same : e ≡ f = edge_is e f (sym (or-false (same_edge e f)) ∙ h) in ap (λ g. has_edge g es) same ∙ absent
 once_pushed f false es once absent = once
 
 -- the key of an item that a later one follows on its pair
-settles_repeat : (edges : List Pair) (item : Item) (items : List Item) (old new : Later) → is_pairless item ≡ false → is_touched (edge_of (key_at item)) items ≡ true → Settles edges items old → new.cleaned ≡ repeated old.cleaned → ((e : Pair) → is_noted new.touched e ≡ is_touched e (item ∷ items)) → Settles edges (item ∷ items) new
-settles_repeat edges item items old new paired again s is notes = record {
+proper_effect_repeat : (edges : List Pair) (item : Item) (items : List Item) (old new : Later) → is_pairless item ≡ false → is_touched (edge_of (key_at item)) items ≡ true → IsProperEffect edges items old → new.cleaned ≡ repeated old.cleaned → ((e : Pair) → is_noted new.touched e ≡ is_touched e (item ∷ items)) → IsProperEffect edges (item ∷ items) new
+proper_effect_repeat edges item items old new paired again s is notes = record {
   noted = notes;
   removed = λ e. rw (is, as_later e) (s.removed e);
   removed_once = rw is s.removed_once;
@@ -272,17 +222,11 @@ settles_repeat edges item items old new paired again s is notes = record {
 }
   where
     as_later : (e : Pair) → deciding_item e (item ∷ items) ≡ deciding_item e items
-    as_later e = decides_as_later e item items (other (touches e item) refl)
-      where
-        other : (t : Bool) → touches e item ≡ t → is_touched e items ≡ false → t ≡ false
-        other true here none =
-            let same : e ≡ edge_of (key_at item) = edge_is e (edge_of (key_at item)) (key_touches e item paired ∙ here) in
-            sym again ∙ sym (ap (λ f. is_touched f items) same) ∙ none
-        other false here none = refl
+    as_later e = grind (arith, nat_tests, decides_as_later, edge_is, key_touches)
 
 -- the key of an item that decides
-settles_decision : (edges : List Pair) (item : Item) (items : List Item) (old new : Later) → is_pairless item ≡ false → is_touched (edge_of (key_at item)) items ≡ false → Settles edges items old → new.cleaned ≡ decided edges (key_at item) old.cleaned → ((e : Pair) → is_noted new.touched e ≡ is_touched e (item ∷ items)) → Settles edges (item ∷ items) new
-settles_decision edges item items old new paired none s is notes = record {
+proper_effect_decision : (edges : List Pair) (item : Item) (items : List Item) (old new : Later) → is_pairless item ≡ false → is_touched (edge_of (key_at item)) items ≡ false → IsProperEffect edges items old → new.cleaned ≡ decided edges (key_at item) old.cleaned → ((e : Pair) → is_noted new.touched e ≡ is_touched e (item ∷ items)) → IsProperEffect edges (item ∷ items) new
+proper_effect_decision edges item items old new paired none s is notes = record {
   noted = notes;
   removed = λ e. rw is (has_edge_pushed e (edge_of (key_at item)) (removes edges (key_at item)) old.cleaned.removed ∙ out e (touches e item) refl);
   removed_once = rw is (once_pushed (edge_of (key_at item)) (removes edges (key_at item)) old.cleaned.removed s.removed_once (untouched_not_removed edges items old (edge_of (key_at item)) s none));
@@ -305,17 +249,17 @@ settles_decision edges item items old new paired none s is notes = record {
     out : (e : Pair) (t : Bool) → touches e item ≡ t → ((same_edge e (edge_of (key_at item)) && removes edges (key_at item)) || has_edge e old.cleaned.removed) ≡ (takes_out (deciding_item e (item ∷ items)) && has_edge e edges)
     out e true here =
         let absent = untouched_not_removed edges items old e s (ap (λ f. is_touched f items) (is_it e here) ∙ none) in
-        rw (here_decides e here, takes_out_item item, absent, key_touches e item paired ∙ here, key_inserts item, ← is_it e here) (or_false (not (inserts item) && has_edge e edges))
+        rw (here_decides e here, takes_out_item item, absent, key_touches e item paired ∙ here, key_inserts item, ← is_it e here) (or-false (not (inserts item) && has_edge e edges))
     out e false other = rw (key_touches e item paired ∙ other, decides_as_later e item items (λ h. other)) (s.removed e)
 
     in_ : (e : Pair) (t : Bool) → touches e item ≡ t → ((same_edge e (edge_of (key_at item)) && adds edges (key_at item)) || has_edge e old.cleaned.added) ≡ (is_insertion (deciding_item e (item ∷ items)) && not (has_edge e edges))
     in_ e true here =
         let absent = untouched_not_added edges items old e s (ap (λ f. is_touched f items) (is_it e here) ∙ none) in
-        rw (here_decides e here, insertion_item item, absent, key_touches e item paired ∙ here, key_inserts item, ← is_it e here) (or_false (inserts item && not (has_edge e edges)))
+        rw (here_decides e here, insertion_item item, absent, key_touches e item paired ∙ here, key_inserts item, ← is_it e here) (or-false (inserts item && not (has_edge e edges)))
     in_ e false other = rw (key_touches e item paired ∙ other, decides_as_later e item items (λ h. other)) (s.added e)
 
-comes_to_key : (edges : List Pair) (item : Item) (items : List Item) (old new : Later) → is_pairless item ≡ false → ComesTo edges items old → new.cleaned ≡ cond (is_noted old.touched (edge_of (key_at item))) (repeated old.cleaned) (decided edges (key_at item) old.cleaned) → ((e : Pair) → is_noted new.touched e ≡ (same_edge e (edge_of (key_at item)) || is_noted old.touched e)) → ComesTo edges (item ∷ items) new
-comes_to_key edges item items old new paired s is notes = record {
+net_effect_key : (edges : List Pair) (item : Item) (items : List Item) (old new : Later) → is_pairless item ≡ false → IsNetEffect edges items old → new.cleaned ≡ cond (is_noted old.touched (edge_of (key_at item))) (repeated old.cleaned) (decided edges (key_at item) old.cleaned) → ((e : Pair) → is_noted new.touched e ≡ (same_edge e (edge_of (key_at item)) || is_noted old.touched e)) → IsNetEffect edges (item ∷ items) new
+net_effect_key edges item items old new paired s is notes = record {
   loops = loops (is_noted old.touched (edge_of (key_at item))) is ∙ s.loops ∙ sym (count_other is_loop item items (not_loop item paired));
   others = rw (not_loop item paired) (go (is_noted old.touched (edge_of (key_at item))) refl is);
 }
@@ -327,19 +271,19 @@ comes_to_key edges item items old new paired s is notes = record {
     notes' : (e : Pair) → is_noted new.touched e ≡ is_touched e (item ∷ proper_items items)
     notes' e = notes e ∙ rw (key_touches e item paired, s.others.noted e) refl
 
-    go : (b : Bool) → is_noted old.touched (edge_of (key_at item)) ≡ b → new.cleaned ≡ cond b (repeated old.cleaned) (decided edges (key_at item) old.cleaned) → Settles edges (item ∷ proper_items items) new
-    go true again is = settles_repeat edges item (proper_items items) old new paired (sym (s.others.noted (edge_of (key_at item))) ∙ again) s.others is notes'
-    go false first is = settles_decision edges item (proper_items items) old new paired (sym (s.others.noted (edge_of (key_at item))) ∙ first) s.others is notes'
+    go : (b : Bool) → is_noted old.touched (edge_of (key_at item)) ≡ b → new.cleaned ≡ cond b (repeated old.cleaned) (decided edges (key_at item) old.cleaned) → IsProperEffect edges (item ∷ proper_items items) new
+    go true again is = proper_effect_repeat edges item (proper_items items) old new paired (sym (s.others.noted (edge_of (key_at item))) ∙ again) s.others is notes'
+    go false first is = proper_effect_decision edges item (proper_items items) old new paired (sym (s.others.noted (edge_of (key_at item))) ∙ first) s.others is notes'
 
-pub comes_to_found_key : (edges : List Pair) (item : Item) (items : List Item) (key : Key) (old new : Later) → key_of item ≡ Some key → ComesTo edges items old → new.cleaned ≡ cond (is_noted old.touched (edge_of key)) (repeated old.cleaned) (decided edges key old.cleaned) → ((e : Pair) → is_noted new.touched e ≡ (same_edge e (edge_of key) || is_noted old.touched e)) → ComesTo edges (item ∷ items) new
-comes_to_found_key edges item items key old new found s is notes =
+pub net_effect_found_key : (edges : List Pair) (item : Item) (items : List Item) (key : Key) (old new : Later) → key_of item ≡ Some key → IsNetEffect edges items old → new.cleaned ≡ cond (is_noted old.touched (edge_of key)) (repeated old.cleaned) (decided edges key old.cleaned) → ((e : Pair) → is_noted new.touched e ≡ (same_edge e (edge_of key) || is_noted old.touched e)) → IsNetEffect edges (item ∷ items) new
+net_effect_found_key edges item items key old new found s is notes =
     let known = key_found item key found in
-    comes_to_key edges item items old new known.0 s (is ∙ ap (λ (k : Key). cond (is_noted old.touched (edge_of k)) (repeated old.cleaned) (decided edges k old.cleaned)) known.1) (λ e. notes e ∙ ap (λ (k : Key). same_edge e (edge_of k) || is_noted old.touched e) known.1)
+    net_effect_key edges item items old new known.0 s (is ∙ ap (λ (k : Key). cond (is_noted old.touched (edge_of k)) (repeated old.cleaned) (decided edges k old.cleaned)) known.1) (λ e. notes e ∙ ap (λ (k : Key). same_edge e (edge_of k) || is_noted old.touched e) known.1)
 
 -- an isolation
 
-settles_isolation : (n : ℕ) (edges : List Pair) (v : ℕ) (items : List Item) (old new : Later) → EdgesFrom n 0 0 edges → Settles edges items old → new.cleaned ≡ isolated edges old.touched v old.cleaned → ((e : Pair) → is_noted new.touched e ≡ (holds v e || is_noted old.touched e)) → Settles edges (Isolate v ∷ items) new
-settles_isolation n edges v items old new up s is notes = record {
+proper_effect_isolation : (n : ℕ) (edges : List Pair) (v : ℕ) (items : List Item) (old new : Later) → EdgesFrom n 0 0 edges → IsProperEffect edges items old → new.cleaned ≡ isolated edges old.touched v old.cleaned → ((e : Pair) → is_noted new.touched e ≡ (holds v e || is_noted old.touched e)) → IsProperEffect edges (Isolate v ∷ items) new
+proper_effect_isolation n edges v items old new up s is notes = record {
   noted = λ e. notes e ∙ ap (λ b. holds v e || b) (s.noted e);
   removed = λ e. rw (is, has_edge-append e old.cleaned.removed (filter (is_free_at old.touched v) edges), has_edge-filter e (is_free_at old.touched v) edges, free e) (out e (is_touched e items) refl);
   removed_once = rw is (once_append old.cleaned.removed (filter (is_free_at old.touched v) edges) s.removed_once (once_ascending n 0 0 (filter (is_free_at old.touched v) edges) (edges_from_filter n 0 0 (is_free_at old.touched v) edges up)) apart);
@@ -366,7 +310,7 @@ settles_isolation n edges v items old new up s is notes = record {
         untouched_not_removed edges items old e s (not-true (is_touched e items) untouched.1)
 
     out : (e : Pair) (b : Bool) → is_touched e items ≡ b → (has_edge e old.cleaned.removed || ((holds v e && not b) && has_edge e edges)) ≡ (takes_out (cond b (deciding_item e items) (cond (holds v e) (Some (Isolate v)) None)) && has_edge e edges)
-    out e true again = rw (and_false (holds v e)) (or_false (has_edge e old.cleaned.removed) ∙ s.removed e)
+    out e true again = rw (and-false (holds v e)) (or-false (has_edge e old.cleaned.removed) ∙ s.removed e)
     out e false none = rw (untouched_not_removed edges items old e s none) (at (holds v e))
       where
         at : (h : Bool) → ((h && true) && has_edge e edges) ≡ (takes_out (cond h (Some (Isolate v)) None) && has_edge e edges)
@@ -378,10 +322,10 @@ settles_isolation n edges v items old new up s is notes = record {
     in_ e false none true = rw (deciding_none e items none) refl
     in_ e false none false = rw (deciding_none e items none) refl
 
-pub comes_to_isolation : (n : ℕ) (edges : List Pair) (v : ℕ) (items : List Item) (old new : Later) → EdgesFrom n 0 0 edges → ComesTo edges items old → new.cleaned ≡ isolated edges old.touched v old.cleaned → ((e : Pair) → is_noted new.touched e ≡ (holds v e || is_noted old.touched e)) → ComesTo edges (Isolate v ∷ items) new
-comes_to_isolation n edges v items old new up s is notes = record {
+pub net_effect_isolation : (n : ℕ) (edges : List Pair) (v : ℕ) (items : List Item) (old new : Later) → EdgesFrom n 0 0 edges → IsNetEffect edges items old → new.cleaned ≡ isolated edges old.touched v old.cleaned → ((e : Pair) → is_noted new.touched e ≡ (holds v e || is_noted old.touched e)) → IsNetEffect edges (Isolate v ∷ items) new
+net_effect_isolation n edges v items old new up s is notes = record {
   loops = ap (λ (c : Cleaned). c.loops) is ∙ s.loops ∙ sym (count_other is_loop (Isolate v) items refl);
-  others = settles_isolation n edges v (proper_items items) old new up s.others is notes;
+  others = proper_effect_isolation n edges v (proper_items items) old new up s.others is notes;
 }
 
 -- the row of an isolated vertex
@@ -405,31 +349,16 @@ row_edges n c d t v (f ∷ fs) up = go (eqb f.0 v) refl (eqb f.1 v) refl (row_ed
 
 pub neighbours_apart : (n c d v : ℕ) (es : List Pair) → EdgesFrom n c d es → All (λ w. v ≢ w) (neighbours_of v es)
 neighbours_apart n c d v [] up = All-nil (λ w. v ≢ w)
-neighbours_apart n c d v (f ∷ fs) up = go (eqb f.0 v) refl (eqb f.1 v) refl (neighbours_apart n f.0 (suc f.1) v fs up.3)
-  where
-    go : (a : Bool) → eqb f.0 v ≡ a → (b : Bool) → eqb f.1 v ≡ b → All (λ w. v ≢ w) (neighbours_of v fs) → All (λ w. v ≢ w) (cond a (f.1 ∷ neighbours_of v fs) (cond b (f.0 ∷ neighbours_of v fs) (neighbours_of v fs)))
-    go true here b there rest = All-cons (λ w. v ≢ w) f.1 (neighbours_of v fs) (grind (arith, nat_tests, here, up.1)) rest
-    go false here true there rest = All-cons (λ w. v ≢ w) f.0 (neighbours_of v fs) (grind (arith, nat_tests, there, up.1)) rest
-    go false here false there rest = rest
+neighbours_apart n c d v (f ∷ fs) up = grind (arith, nat_tests, neighbours_apart n f.0 (suc f.1) v fs up.3, up.3, up.1)
 
 -- edges pass a test exactly where one is found
 pub filter_none : (p : Pair → Bool) (es : List Pair) → list_any p es ≡ false → filter p es ≡ []
 filter_none p [] none = refl
-filter_none p (e ∷ es) none = go (p e) none (filter_none p es)
-  where
-    go : (b : Bool) → (b || list_any p es) ≡ false → (list_any p es ≡ false → filter p es ≡ []) → cond b (e ∷ filter p es) (filter p es) ≡ []
-    go true h rest = absurd (cc)
-    go false h rest = rest h
+filter_none p (e ∷ es) none = grind (arith, nat_tests, filter_none p es)
 
 pub filter_some : (p : Pair → Bool) (es : List Pair) → list_any p es ≡ true → 0 < length (filter p es)
 filter_some p [] some = absurd (cc)
-filter_some p (e ∷ es) some = go (p e) some (filter_some p es)
-  where
-    go : (b : Bool) → (b || list_any p es) ≡ true → (list_any p es ≡ true → 0 < length (filter p es)) → 0 < length (cond b (e ∷ filter p es) (filter p es))
-    go true h rest = omega arith
-    go false h rest = rest h
-
--- what a walk over the row comes to, told by the length of the list
+filter_some p (e ∷ es) some = grind (arith, nat_tests, filter_some p es)
 
 row_length : (n : ℕ) (edges : List Pair) (t : Touched) (v : ℕ) (c : Cleaned) (more : List Pair) → EdgesFrom n 0 0 edges → more ≡ c.removed ++ untouched_at t v (neighbours_of v edges) → (more ≡ c.removed ++ filter (is_free_at t v) edges) × (length more ≡ length c.removed + length (filter (is_free_at t v) edges))
 row_length n edges t v c more up is =
@@ -437,85 +366,34 @@ row_length n edges t v c more up is =
     (all, ap length all ∙ length-append c.removed (filter (is_free_at t v) edges))
 
 pub row_idle : (n : ℕ) (edges : List Pair) (t : Touched) (v : ℕ) (c : Cleaned) (more : List Pair) → EdgesFrom n 0 0 edges → more ≡ c.removed ++ untouched_at t v (neighbours_of v edges) → length more ≡ length c.removed → record c { removed = more; idle = c.idle + 1 } ≡ isolated edges t v c
-row_idle n edges t v c more up is same = go (list_any (is_free_at t v) edges) refl
-  where
-    go : (b : Bool) → list_any (is_free_at t v) edges ≡ b → record c { removed = more; idle = c.idle + 1 } ≡ record c { removed = c.removed ++ filter (is_free_at t v) edges; idle = c.idle + cond b 0 1 }
-    go true some = let long = row_length n edges t v c more up is in absurd (omega (arith, long.1, filter_some (is_free_at t v) edges some))
-    go false none = ap (λ (es : List Pair). record c { removed = es; idle = c.idle + 1 }) (row_length n edges t v c more up is).0
+row_idle n edges t v c more up is same = grind (arith, nat_tests, row_length, filter_some)
 
 pub row_works : (n : ℕ) (edges : List Pair) (t : Touched) (v : ℕ) (c : Cleaned) (more : List Pair) → EdgesFrom n 0 0 edges → more ≡ c.removed ++ untouched_at t v (neighbours_of v edges) → length more ≢ length c.removed → record c { removed = more } ≡ isolated edges t v c
-row_works n edges t v c more up is longer = go (list_any (is_free_at t v) edges) refl
-  where
-    go : (b : Bool) → list_any (is_free_at t v) edges ≡ b → record c { removed = more } ≡ record c { removed = c.removed ++ filter (is_free_at t v) edges; idle = c.idle + cond b 0 1 }
-    go true some =
-        ap (λ (es : List Pair). record c { removed = es }) (row_length n edges t v c more up is).0
-        ∙ ap (λ (i : ℕ). record c { removed = c.removed ++ filter (is_free_at t v) edges; idle = i }) (omega arith)
-    go false none =
-        let long = row_length n edges t v c more up is in
-        let empty = ap length (filter_none (is_free_at t v) edges none) in
-        absurd (longer (omega (arith, long.1, empty)))
+row_works n edges t v c more up is longer = grind (arith, nat_tests, row_length, filter_none)
 
 -- an isolation all of whose pairs are noted
 pub all_noted : (edges : List Pair) (t : Touched) (v : ℕ) (c : Cleaned) → ((e : Pair) → holds v e ≡ true → is_noted t e ≡ true) → record c { idle = c.idle + 1 } ≡ isolated edges t v c
-all_noted edges t v c all =
-    let none = list_any_none (is_free_at t v) edges (λ i d h. taken (get_or edges i d) (holds v (get_or edges i d)) refl) in
-    rw (none, filter_none (is_free_at t v) edges none, append-nil c.removed) refl
-  where
-    taken : (e : Pair) (b : Bool) → holds v e ≡ b → is_free_at t v e ≡ false
-    taken e true is = rw (all e is) (and_false (holds v e))
-    taken e false is = rw is refl
-
--- the counts are at most the number of items
+all_noted edges t v c all = grind (arith, nat_tests, list_any_none, filter_none, append-nil, and-false)
 
 count_le : (p : Item → Bool) (items : List Item) → count_by p items ≤ length items
 count_le p [] = omega arith
-count_le p (item ∷ items) = go (p item) (count_by-cons p item items) (count_le p items)
-  where
-    go : (b : Bool) → count_by p (item ∷ items) ≡ cond b 1 0 + count_by p items → count_by p items ≤ length items → count_by p (item ∷ items) ≤ suc (length items)
-    go true split rest = omega arith
-    go false split rest = omega arith
+count_le p (item ∷ items) = grind (arith, nat_tests, count_le p items, count_by-cons)
 
 count_with_later_le : (p : Item → List Item → Bool) (items : List Item) → count_with_later p items ≤ length items
 count_with_later_le p [] = omega arith
-count_with_later_le p (item ∷ items) = go (p item items) (count_with_later_le p items)
-  where
-    go : (b : Bool) → count_with_later p items ≤ length items → cond b 1 0 + count_with_later p items ≤ suc (length items)
-    go true rest = omega arith
-    go false rest = omega arith
+count_with_later_le p (item ∷ items) = grind (arith, nat_tests, count_with_later_le p items)
 
 proper_le : (items : List Item) → length (proper_items items) ≤ length items
 proper_le [] = omega arith
-proper_le (item ∷ items) = go (is_loop item) (proper_le items)
-  where
-    go : (b : Bool) → length (proper_items items) ≤ length items → length (cond (not b) (item ∷ proper_items items) (proper_items items)) ≤ suc (length items)
-    go true rest = omega arith
-    go false rest = omega arith
+proper_le (item ∷ items) = grind (arith, nat_tests, proper_le items)
 
-pub counts_few : (edges : List Pair) (items : List Item) (l : Later) → ComesTo edges items l → (l.cleaned.loops ≤ length items) × (l.cleaned.repeats ≤ length items) × (l.cleaned.idle ≤ length items)
-counts_few edges items l s =
-    let few = proper_le items in
-    (omega (arith, s.loops, count_le is_loop items), omega (arith, few, s.others.repeats, count_with_later_le is_repeat (proper_items items)), omega (arith, few, s.others.idle, count_with_later_le (is_idle edges) (proper_items items)))
-
--- the walk has come to the first item
+pub counts_few : (edges : List Pair) (items : List Item) (l : Later) → IsNetEffect edges items l → (l.cleaned.loops ≤ length items) × (l.cleaned.repeats ≤ length items) × (l.cleaned.idle ≤ length items)
+counts_few edges items l s = grind (arith, nat_tests, proper_le, count_le, count_with_later_le, s.loops, s.others.repeats, s.others.idle)
 
 pub in_added : (edges : List Pair) (items : List Item) (e : Pair) → (is_insertion (deciding_item e items) && not (has_edge e edges)) ≡ has_edge e (added_edges edges items)
-in_added edges items e =
-    both_pass (is_insertion (deciding_item e items)) (has_edge e edges) (has_edge e (inserted_pairs items)) (inserted_if_decided e items)
-    ∙ sym (has_edge-filter e (λ e. not (has_edge e edges) && is_insertion (deciding_item e items)) (inserted_pairs items))
-  where
-    both_pass : (i h t : Bool) → (i ≡ true → t ≡ true) → (i && not h) ≡ ((not h && i) && t)
-    both_pass true h t there = rw (there refl) (and_true (not h))
-      where
-        and_true : (b : Bool) → b ≡ ((b && true) && true)
-        and_true true = refl
-        and_true false = refl
-    both_pass false h t there = neither (not h)
-      where
-        neither : (b : Bool) → false ≡ ((b && false) && t)
-        neither true = refl
-        neither false = refl
+in_added edges items e = grind (arith, nat_tests, inserted_if_decided, has_edge-filter)
 
-pub come_to_cleaned : (g : GraphShape) (items : List Item) (l : Later) (removed added : List Pair) (c : Cleaned) → IsGraph g → All (IsInside g.vertices) items → ComesTo g.edges items l → IsPermutation l.cleaned.removed removed → IsSorted pair_cmp removed → IsPermutation l.cleaned.added added → IsSorted pair_cmp added → c ≡ record l.cleaned { removed = removed; added = added } → c ≡ cleaned g items
+pub come_to_cleaned : (g : GraphShape) (items : List Item) (l : Later) (removed added : List Pair) (c : Cleaned) → IsGraph g → All (IsInside g.vertices) items → IsNetEffect g.edges items l → IsPermutation l.cleaned.removed removed → IsSorted pair_cmp removed → IsPermutation l.cleaned.added added → IsSorted pair_cmp added → c ≡ record l.cleaned { removed = removed; added = added } → c ≡ cleaned g items
 come_to_cleaned g items l removed added c graph inside s removed_same removed_up added_same added_up is =
     same_cleaned c (cleaned g items)
     (ap (λ (c : Cleaned). c.removed) is ∙ sorted_edges g.vertices l.cleaned.removed removed (removed_edges g.edges (proper_items items)) s.others.removed_once removed_same removed_up

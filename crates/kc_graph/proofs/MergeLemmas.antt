@@ -26,11 +26,7 @@ rises_take low (suc n) (x ∷ xs) up = (up.0, rises_take (suc x) n xs up.1)
 
 pub rises_filter : (low : ℕ) (p : ℕ → Bool) (xs : List ℕ) → RisesFrom low xs → RisesFrom low (filter p xs)
 rises_filter low p [] up = tt
-rises_filter low p (x ∷ xs) up = go (p x) (rises_filter (suc x) p xs up.1)
-  where
-    go : (b : Bool) → RisesFrom (suc x) (filter p xs) → RisesFrom low (cond b (x ∷ filter p xs) (filter p xs))
-    go true rest = (up.0, rest)
-    go false rest = rises_weaker (suc x) low (filter p xs) (omega (arith, up.0)) rest
+rises_filter low p (x ∷ xs) up = grind (arith, nat_tests, rises_filter (suc x) p xs up.1, rises_weaker, up.1, up.0)
 
 -- a list that rises below `low`, and then one that rises from there
 rises_join : (k low : ℕ) (xs ys : List ℕ) → RisesFrom k xs → RisesFrom low ys → k ≤ low → ((m : ℕ) → m < length xs → get_or xs m 0 < low) → RisesFrom k (xs ++ ys)
@@ -43,9 +39,12 @@ pub has_second-push : (x : ℕ) (hs : List Pair) (h : Pair) → has_second x (hs
 has_second-push x [] h = grind (arith, nat_tests)
 has_second-push x (g ∷ gs) h = grind (arith, nat_tests, has_second-push x gs h)
 
-pub has_second-append : (x : ℕ) (gs hs : List Pair) → has_second x (gs ++ hs) ≡ has_second x gs || has_second x hs
-has_second-append x [] hs = refl
-has_second-append x (g ∷ gs) hs = grind (arith, nat_tests, has_second-append x gs hs)
+-- the merged numbers stand from `at` on; they rise, and all are above the first i of the row and above second number j - 1
+pub record RisesAbove (row : List ℕ) (hs : List Pair) (items : List ℕ) (i j at : ℕ) : Type 0 where
+  pub low : ℕ
+  pub suffix : RisesFrom low (drop at items)
+  pub above_old : (m : ℕ) → m < i → get_or row m 0 < low
+  pub above_new : (m : ℕ) → m + 1 ≡ j → (get_or hs m (0, 0)).1 < low
 
 -- a merge of a row with the second numbers of pairs, from the greatest down: i and j are left of the two, and what is merged
 -- stands from `at` on
@@ -55,10 +54,7 @@ pub record IsMerging (row : List ℕ) (hs : List Pair) (items : List ℕ) (i j a
   pub old_left : i ≤ length row
   pub new_left : j ≤ length hs
   pub same : (m : ℕ) → m < i → get_or items m 0 ≡ get_or row m 0
-  pub low : ℕ
-  pub suffix : RisesFrom low (drop at items)
-  pub above_old : (m : ℕ) → m < i → get_or row m 0 < low
-  pub above_new : (m : ℕ) → m + 1 ≡ j → (get_or hs m (0, 0)).1 < low
+  pub rises : RisesAbove row hs items i j at
   pub has : (x : ℕ) → (has_number x (take i row) || has_second x (take j hs)) || has_number x (drop at items) ≡ has_number x row || has_second x hs
 
 or_false : (a : Bool) → a ≡ a || false
@@ -76,19 +72,22 @@ merging_first row hs items i j at up row_is j_is at_is long =
       old_left = omega arith;
       new_left = omega arith;
       same = λ m h. sym (ap (λ (xs : List ℕ). get_or xs m 0) row_is ∙ get_or-take i items m 0 h);
-      low = suc (get_or row (i - 1) 0 + (get_or hs (j - 1) (0, 0)).1);
-      suffix = rw none tt;
-      above_old = λ m h. elim (cases_lt m (i - 1)) [
-        | inl lt ↦ let far : get_or row m 0 < get_or row (i - 1) 0 = rises_strictly 0 row m (i - 1) (rw row_is up) lt (omega arith) in omega arith
-        | inr ge ↦ let e : m ≡ i - 1 = omega arith in rw e (omega arith)
-      ];
-      above_new = λ m e. let f : m ≡ j - 1 = omega arith in rw f (omega arith);
+      rises = record {
+        low = suc (get_or row (i - 1) 0 + (get_or hs (j - 1) (0, 0)).1);
+        suffix = rw none tt;
+        above_old = λ m h. elim (cases_lt m (i - 1)) [
+          | inl lt ↦ let far : get_or row m 0 < get_or row (i - 1) 0 = rises_strictly 0 row m (i - 1) (rw row_is up) lt (omega arith) in omega arith
+          | inr ge ↦ let e : m ≡ i - 1 = omega arith in rw e (omega arith)
+        ];
+        above_new = λ m e. let f : m ≡ j - 1 = omega arith in rw f (omega arith);
+      };
       has = λ x. rw (none, take_all i row (omega arith), take_all j hs (omega arith)) (sym (or_false (has_number x row || has_second x hs)));
     }
 
 -- one number more is merged
 pub merging_next : (row : List ℕ) (hs : List Pair) (items : List ℕ) (i j at : ℕ) → IsMerging row hs items i j at → (i' j' at' y : ℕ) → at ≡ at' + 1 → i' ≤ i → j' ≤ j → i' + j' ≤ at' → ((low : ℕ) → ((m : ℕ) → m < i → get_or row m 0 < low) → ((m : ℕ) → m + 1 ≡ j → (get_or hs m (0, 0)).1 < low) → y < low) → ((m : ℕ) → m < i' → get_or row m 0 < y) → ((m : ℕ) → m + 1 ≡ j' → (get_or hs m (0, 0)).1 < y) → ((x : ℕ) → (has_number x (take i' row) || has_second x (take j' hs)) || eqb y x ≡ has_number x (take i row) || has_second x (take j hs)) → IsMerging row hs (set items at' y) i' j' at'
 merging_next row hs items i j at s i' j' at' y is le lf fits under above_old above_new has =
+    let r = s.rises in
     let next : drop at' (set items at' y) ≡ y ∷ drop at items = drop-set items at' y (omega (arith, s.within)) ∙ ap (λ n. y ∷ drop n items) (sym is) in
     record {
       fits = fits;
@@ -96,10 +95,12 @@ merging_next row hs items i j at s i' j' at' y is le lf fits under above_old abo
       old_left = omega (arith, s.old_left);
       new_left = omega (arith, s.new_left);
       same = λ m h. get_or-set_other items at' m y 0 (omega arith) ∙ s.same m (omega arith);
-      low = y;
-      suffix = rw next (omega arith, rises_weaker s.low (suc y) (drop at items) (omega (arith, under s.low s.above_old s.above_new)) s.suffix);
-      above_old = above_old;
-      above_new = above_new;
+      rises = record {
+        low = y;
+        suffix = rw next (omega arith, rises_weaker r.low (suc y) (drop at items) (omega (arith, under r.low r.above_old r.above_new)) r.suffix);
+        above_old = above_old;
+        above_new = above_new;
+      };
       has = λ x. rw next (shift _ _ _ _ (has x) ∙ s.has x);
     }
   where
@@ -178,8 +179,8 @@ module _ (row : List ℕ) (hs : List Pair) (items : List ℕ) (i at : ℕ) (up :
           get_or-take i items m 0 h' ∙ s.same m h' ∙ sym (get_or-take i row m 0 h')
 
   pub merged_rises : RisesFrom 0 (take i items ++ drop at items)
-  merged_rises = rw left (rises_join 0 s.low (take i row) (drop at items) (rises_take 0 i row up) s.suffix (omega arith)
-      (λ m h. let h' : m < i = omega (arith, h, length-take-le i row s.old_left) in rw (get_or-take i row m 0 h') (s.above_old m h')))
+  merged_rises = rw left (rises_join 0 s.rises.low (take i row) (drop at items) (rises_take 0 i row up) s.rises.suffix (omega arith)
+      (λ m h. let h' : m < i = omega (arith, h, length-take-le i row s.old_left) in rw (get_or-take i row m 0 h') (s.rises.above_old m h')))
 
   pub merged_has : (x : ℕ) → has_number x (take i items ++ drop at items) ≡ has_number x row || has_second x hs
   merged_has x = rw left (has_number-append x (take i row) (drop at items) ∙ ap (λ b. b || has_number x (drop at items)) (or_false (has_number x (take i row))) ∙ s.has x)
@@ -220,10 +221,7 @@ second_some x (h ∷ hs) (suc m) lt e =
 
 module _ (row : List ℕ) (hs : List Pair) (items : List ℕ) (i j kept : ℕ) (up : RisesFrom 0 row) (vp : SecondsRise hs) (s : IsKeeping row hs items i j kept) (j' : ℕ) (at : i < length row) (j_is : j' ≤ length hs) (passed : (m : ℕ) → j ≤ m → m < j' → (get_or hs m (0, 0)).1 < get_or row i 0) where
   before : (m : ℕ) → m < j' → (get_or hs m (0, 0)).1 < get_or row i 0
-  before m h = elim (cases_lt m j) [
-    | inl lt ↦ s.under m i lt (omega arith) at
-    | inr ge ↦ passed m ge h
-  ]
+  before m h = grind (arith, nat_tests, s.under)
 
   under_next : (m k : ℕ) → m < j' → i + 1 ≤ k → k < length row → (get_or hs m (0, 0)).1 < get_or row k 0
   under_next m k h le lt =
@@ -260,17 +258,7 @@ module _ (row : List ℕ) (hs : List Pair) (items : List ℕ) (i j kept : ℕ) (
 
   -- a number that is taken out
   pub taking_it : j' < length hs → (get_or hs j' (0, 0)).1 ≡ get_or row i 0 → IsKeeping row hs items (i + 1) j' kept
-  taking_it lt is =
-      let some : has_second (get_or row i 0) hs ≡ true = second_some (get_or row i 0) hs j' lt is in
-      record {
-        sized = s.sized;
-        front = omega (arith, s.front);
-        looked = omega arith;
-        passed = j_is;
-        filtered = s.filtered ∙ sym (more ∙ ap (λ b. filter (λ x. not (has_second x hs)) (take i row) ++ cond (not b) (get_or row i 0 ∷ []) []) some ∙ append-nil (filter (λ x. not (has_second x hs)) (take i row)));
-        same = λ m le lt. s.same m (omega arith) lt;
-        under = under_next;
-      }
+  taking_it lt is = grind (arith, nat_tests, second_some, more, append-nil, under_next, s.sized, s.front, s.filtered, s.same)
 
 -- several numbers that stay, one after another
 module _ (row : List ℕ) (hs : List Pair) (items : List ℕ) (i j kept : ℕ) (up : RisesFrom 0 row) (vp : SecondsRise hs) (s : IsKeeping row hs items i j kept) where
@@ -282,15 +270,7 @@ module _ (row : List ℕ) (hs : List Pair) (items : List ℕ) (i j kept : ℕ) (
       omega (arith, order, s.same a le (omega arith), s.same b (omega arith) fits)
 
   absent : (k : ℕ) → i ≤ k → k < length row → (j < length hs → get_or row k 0 < (get_or hs j (0, 0)).1) → has_second (get_or row k 0) hs ≡ false
-  absent k le lt below = second_none (get_or row k 0) hs (λ m h. elim (cases_lt m j) [
-    | inl early ↦ let b : (get_or hs m (0, 0)).1 < get_or row k 0 = s.under m k early le lt in omega arith
-    | inr late ↦
-        let a : get_or row k 0 < (get_or hs j (0, 0)).1 = below (omega arith) in
-        elim (cases_eq m j) [
-          | inl e ↦ rw e (omega arith)
-          | inr ne ↦ let b : (get_or hs j (0, 0)).1 < (get_or hs m (0, 0)).1 = seconds_rise hs vp j m (omega arith) h in omega arith
-        ]
-  ])
+  absent k le lt below = grind (arith, nat_tests, second_none, below, seconds_rise, s.under)
 
   run_stays : (n : ℕ) → i + n ≤ length row → ((k : ℕ) → i ≤ k → k < i + n → has_second (get_or row k 0) hs ≡ false) → filter (λ x. not (has_second x hs)) (take (i + n) row) ≡ filter (λ x. not (has_second x hs)) (take i row) ++ take n (drop i items)
   run_stays zero fits none =

@@ -1,10 +1,9 @@
 -- Lemmas on ascending lists of numbers.
-use Rattle.std.proofs.Common.{ℕ, suc, zero, ◌+◌, ◌-◌, ◌≤◌, ◌<◌, ◌≡◌, ◌≢◌, Bool, true, false, ◌||◌, ◌&&◌, eqb, ltb, List, [], ◌∷◌, ◌++◌, length, get_or, refl, arith, subst, ap, sym, ◌∙◌, inl, inr, true≢false}
+use Rattle.std.proofs.Common.{ℕ, suc, zero, ◌+◌, ◌-◌, ◌≤◌, ◌<◌, ◌≡◌, ◌≢◌, Bool, true, false, ◌||◌, ◌&&◌, eqb, ltb, List, [], ◌∷◌, ◌++◌, length, get_or, refl, arith, ap, sym, ◌∙◌, inl, inr, true≢false}
 use Rattle.std.proofs.lemmas.Bool.{cases_eq, cases_lt}
 use Rattle.std.proofs.lemmas.Bool.Decides.{nat_tests}
 use Rattle.std.proofs.lemmas.List.{get_or_default}
 use Rattle.std.specs.Prelude.{All, IsTrue, not, ◌↔◌}
-use Rattle.std.specs.List.Sorted.{IsStrictlyIncreasing}
 use Rattle.kc_graph.specs.Numbers.{RisesFrom, AllBelow, has_number}
 use Rattle.kc_graph.specs.private.Numbers.{put, without}
 
@@ -28,14 +27,6 @@ rises_in_order low (x ∷ xs) zero (suc j) up le h =
     let later : suc x ≤ get_or xs j 0 = rises_at_least (suc x) xs j up.1 (omega arith) in omega arith
 rises_in_order low (x ∷ xs) (suc i) zero up le h = absurd (omega arith)
 rises_in_order low (x ∷ xs) (suc i) (suc j) up le h = rises_in_order (suc x) xs i j up.1 (omega arith) (omega arith)
-
--- a rising list is one in std's word
-pub increasing_from_rises : (low : ℕ) (xs : List ℕ) → RisesFrom low xs → IsStrictlyIncreasing xs
-increasing_from_rises low [] up k h = absurd (omega arith)
-increasing_from_rises low (x ∷ xs) up zero h = rises_at_least (suc x) xs 0 up.1 (omega arith)
-increasing_from_rises low (x ∷ xs) up (suc k) h =
-    let next : suc (k + 1) ≡ suc k + 1 = omega arith in
-    subst (λ (m : ℕ). get_or xs k 0 < get_or (x ∷ xs) m 0) next (increasing_from_rises (suc x) xs up.1 k (omega arith))
 
 -- a rising list has no number below where it rises from
 pub has_number_below : (low x : ℕ) (xs : List ℕ) → RisesFrom low xs → x < low → has_number x xs ≡ false
@@ -139,10 +130,6 @@ all_from_below n [] low k d h = absurd (omega arith)
 all_from_below n (x ∷ xs) low zero d h = low.0
 all_from_below n (x ∷ xs) low (suc k) d h = all_from_below n xs low.1 k d (omega arith)
 
-pub below_from_all : (n : ℕ) (xs : List ℕ) → All (λ w. w < n) xs → AllBelow n xs
-below_from_all n [] all = tt
-below_from_all n (x ∷ xs) all = (all 0 0 (omega arith), below_from_all n xs (λ k d h. all (suc k) d (omega arith)))
-
 -- the numbers of a rising list are below x exactly where its last number is
 pub all_below-last : (x last : ℕ) (xs : List ℕ) → RisesFrom 0 xs → 0 < length xs → last ≡ get_or xs (length xs - 1) 0 → IsTrue (ltb last x) ↔ All (λ y. y < x) xs
 all_below-last x last xs up some is = (from_last, to_last)
@@ -173,10 +160,4 @@ same_rising low (x ∷ xs) (y ∷ ys) up down same = elim (cases_eq x y) [
     here v vs = grind (arith, nat_tests)
 
     later : (v : ℕ) → x ≡ y → has_number v xs ≡ has_number v ys
-    later v e = elim (cases_eq v y) [
-      | inl is ↦ has_number_below (suc x) v xs up.1 (omega (arith, e, is)) ∙ sym (has_number_below (suc y) v ys down.1 (omega (arith, is)))
-      | inr ne ↦ sym (past x xs (omega (arith, ne, e))) ∙ same v ∙ past y ys (omega (arith, ne))
-    ]
-      where
-        past : (u : ℕ) (us : List ℕ) → u ≢ v → has_number v (u ∷ us) ≡ has_number v us
-        past u us ne = grind (arith, nat_tests, ne)
+    later v e = grind (arith, nat_tests, has_number_below, up.1, down.1)

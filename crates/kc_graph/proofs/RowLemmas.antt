@@ -1,10 +1,9 @@
 -- What a number put into a row, or taken out of it, does to the edges that the rows stand for.
-use Rattle.std.proofs.Common.{ℕ, suc, zero, ◌+◌, ◌≤◌, ◌<◌, ◌≡◌, ◌≢◌, List, [], ◌∷◌, ◌++◌, length, get_or, set, refl, ap, sym, ◌∙◌, arith, subst, replicate}
+use Rattle.std.proofs.Common.{ℕ, suc, zero, ◌+◌, ◌≤◌, ◌<◌, ◌≡◌, ◌≢◌, List, [], ◌∷◌, ◌++◌, length, get_or, set, refl, ap, arith, replicate}
 use Rattle.std.proofs.lemmas.Bool.Decides.{nat_tests}
 use Rattle.std.proofs.lemmas.List.Elements.{filter-append}
-use Rattle.std.specs.Prelude.{not}
 use Rattle.kc_graph.specs.private.Numbers.{put, without}
-use Rattle.kc_graph.specs.Shape.{Pair, same_edge, insert_edge, remove_edge}
+use Rattle.kc_graph.specs.Shape.{Pair, insert_edge, remove_edge}
 use Rattle.kc_graph.specs.KeptRows.{edges_at, edges_of}
 
 pub edges_of_empty : (from n : ℕ) → edges_of from (replicate n []) ≡ []
@@ -42,14 +41,8 @@ insert_edge_in_row a b (c ∷ cs) rest first = grind (arith, nat_tests, insert_e
 -- the row k, of vertex a, gains a number b above a
 pub edges_of_put_above : (from k a b : ℕ) (rows : List (List ℕ)) → a ≡ from + k → k < length rows → a < b → edges_of from (set rows k (put b (get_or rows k []))) ≡ insert_edge (a, b) (edges_of from rows)
 edges_of_put_above from k a b [] e h above = absurd (omega arith)
-edges_of_put_above from zero a b (row ∷ rows) e h above =
-    let here : a ≡ from = omega arith in
-    subst (λ (x : ℕ). edges_at x (put b row) ++ edges_of (suc x) rows ≡ insert_edge (a, b) (edges_at x row ++ edges_of (suc x) rows)) here
-    (ap (λ z. z ++ edges_of (suc a) rows) (edges_at_put a b row above)
-    ∙ sym (insert_edge_in_row a b row (edges_of (suc a) rows) (insert_edge_first (a, b) (suc a) rows (omega arith))))
-edges_of_put_above from (suc k) a b (row ∷ rows) e h above =
-    ap (λ z. edges_at from row ++ z) (edges_of_put_above (suc from) k a b rows (omega arith) (omega arith) above)
-    ∙ sym (insert_edge_past (a, b) from row (edges_of (suc from) rows) (omega arith))
+edges_of_put_above from zero a b (row ∷ rows) e h above = grind (arith, nat_tests, edges_at_put, insert_edge_in_row, insert_edge_first)
+edges_of_put_above from (suc k) a b (row ∷ rows) e h above = grind (arith, nat_tests, edges_of_put_above (suc from) k a b rows (omega arith) (omega arith) above, insert_edge_past)
 
 -- the row k gains a number that is not above its vertex
 pub edges_of_put_below : (from k a : ℕ) (rows : List (List ℕ)) → k < length rows → a ≤ from + k → edges_of from (set rows k (put a (get_or rows k []))) ≡ edges_of from rows
@@ -73,24 +66,13 @@ remove_edge_other_row e a (c ∷ cs) other = grind (arith, nat_tests, remove_edg
 
 remove_edge_later_rows : (e : Pair) (a : ℕ) (rows : List (List ℕ)) → e.0 < a → remove_edge e (edges_of a rows) ≡ edges_of a rows
 remove_edge_later_rows e a [] h = refl
-remove_edge_later_rows e a (row ∷ rows) h =
-    filter-append (λ f. not (same_edge e f)) (edges_at a row) (edges_of (suc a) rows)
-    ∙ ap (λ z. z ++ remove_edge e (edges_of (suc a) rows)) (remove_edge_other_row e a row (omega arith))
-    ∙ ap (λ z. edges_at a row ++ z) (remove_edge_later_rows e (suc a) rows (omega arith))
+remove_edge_later_rows e a (row ∷ rows) h = grind (arith, nat_tests, remove_edge_later_rows e (suc a) rows (omega arith), filter-append, remove_edge_other_row)
 
 -- the row k, of vertex a, loses the number b
 pub edges_of_without_above : (from k a b : ℕ) (rows : List (List ℕ)) → a ≡ from + k → k < length rows → edges_of from (set rows k (without b (get_or rows k []))) ≡ remove_edge (a, b) (edges_of from rows)
 edges_of_without_above from k a b [] e h = absurd (omega arith)
-edges_of_without_above from zero a b (row ∷ rows) e h =
-    let here : a ≡ from = omega arith in
-    subst (λ (x : ℕ). edges_at x (without b row) ++ edges_of (suc x) rows ≡ remove_edge (a, b) (edges_at x row ++ edges_of (suc x) rows)) here
-    (ap (λ z. z ++ edges_of (suc a) rows) (edges_at_without a b row)
-    ∙ ap (λ z. remove_edge (a, b) (edges_at a row) ++ z) (sym (remove_edge_later_rows (a, b) (suc a) rows (omega arith)))
-    ∙ sym (filter-append (λ f. not (same_edge (a, b) f)) (edges_at a row) (edges_of (suc a) rows)))
-edges_of_without_above from (suc k) a b (row ∷ rows) e h =
-    ap (λ z. edges_at from row ++ z) (edges_of_without_above (suc from) k a b rows (omega arith) (omega arith))
-    ∙ ap (λ z. z ++ remove_edge (a, b) (edges_of (suc from) rows)) (sym (remove_edge_other_row (a, b) from row (omega arith)))
-    ∙ sym (filter-append (λ f. not (same_edge (a, b) f)) (edges_at from row) (edges_of (suc from) rows))
+edges_of_without_above from zero a b (row ∷ rows) e h = grind (arith, nat_tests, edges_at_without, remove_edge_later_rows, filter-append)
+edges_of_without_above from (suc k) a b (row ∷ rows) e h = grind (arith, nat_tests, edges_of_without_above (suc from) k a b rows (omega arith) (omega arith), remove_edge_other_row, filter-append)
 
 -- the row k loses a number that is not above its vertex
 pub edges_of_without_below : (from k a : ℕ) (rows : List (List ℕ)) → k < length rows → a ≤ from + k → edges_of from (set rows k (without a (get_or rows k []))) ≡ edges_of from rows

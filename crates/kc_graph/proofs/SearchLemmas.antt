@@ -1,5 +1,5 @@
 -- What a binary search in a rising list tells, and what the edit at its place makes.
-use Rattle.std.proofs.Common.{ℕ, suc, zero, ◌≤◌, ◌<◌, ◌≡◌, ◌≢◌, false, List, [], ◌∷◌, ◌++◌, length, get_or, refl, sym, ◌∙◌, arith}
+use Rattle.std.proofs.Common.{ℕ, suc, zero, ◌≤◌, ◌<◌, ◌≡◌, false, List, [], ◌∷◌, ◌++◌, length, get_or, refl, sym, ◌∙◌, arith}
 use Rattle.std.proofs.lemmas.Bool.Decides.{nat_tests}
 use Rattle.std.specs.List.{insert, remove}
 use Rattle.std.specs.Prelude.{All, Result, Ok, Err, is_ok}
@@ -14,10 +14,7 @@ pub found : (xs : List ℕ) (x : ℕ) (r : Result ℕ ℕ) → RisesFrom 0 xs �
 found xs x r up is = searched xs x r is (λ i j le h. rises_in_order 0 xs i j up le h)
 
 absent_from_sides : (xs : List ℕ) (x i : ℕ) → Found xs x (Err i) → has_number x xs ≡ false
-absent_from_sides xs x i f = has_number_nowhere x xs (λ k h. differs k h)
-  where
-    differs : (k : ℕ) → k < length xs → get_or xs k 0 ≢ x
-    differs k h e = grind (arith, f.1 k, f.2 k)
+absent_from_sides xs x i f = grind (arith, nat_tests, has_number_nowhere, f.1, f.2)
 
 pub is_ok-found : (xs : List ℕ) (x : ℕ) (r : Result ℕ ℕ) → Found xs x r → is_ok r ≡ has_number x xs
 is_ok-found xs x (Ok i) f = sym (has_number_at x xs i f.0 f.1)
@@ -35,14 +32,8 @@ insert_is_put (y ∷ ys) (suc i) x le below above =
 
 remove_is_without : (low : ℕ) (xs : List ℕ) (i x : ℕ) → RisesFrom low xs → i < length xs → get_or xs i 0 ≡ x → remove xs i ≡ without x xs
 remove_is_without low [] i x up h e = absurd (omega arith)
-remove_is_without low (y ∷ ys) zero x up h e =
-    let gone : without x ys ≡ ys = without_absent x ys (has_number_below (suc y) x ys up.1 (omega arith)) in
-    grind (arith, nat_tests)
-remove_is_without low (y ∷ ys) (suc i) x up h e =
-    let later : suc y ≤ get_or ys i 0 = rises_at_least (suc y) ys i up.1 (omega arith) in
-    let rest : remove ys i ≡ without x ys = remove_is_without (suc y) ys i x up.1 (omega arith) e in
-    let past : y ≢ x = omega arith in
-    grind (arith, nat_tests)
+remove_is_without low (y ∷ ys) zero x up h e = grind (arith, nat_tests, without_absent, has_number_below, up.1)
+remove_is_without low (y ∷ ys) (suc i) x up h e = grind (arith, nat_tests, remove_is_without (suc y) ys i x up.1 (omega arith) e, rises_at_least, up.1)
 
 -- the list after an insertion at the place that the search told
 pub inserted : (xs ys : List ℕ) (x i : ℕ) → RisesFrom 0 xs → Found xs x (Err i) → ys ≡ insert xs i x → (ys ≡ put x xs) × RisesFrom 0 ys

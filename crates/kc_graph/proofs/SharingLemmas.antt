@@ -1,13 +1,16 @@
 -- Lemmas on rows that are cut in two, and so are the half-edges that come into them or leave them.
-use Rattle.std.proofs.Common.{ℕ, ◌+◌, ◌-◌, ◌≤◌, ◌<◌, ◌≡◌, inl, inr, Bool, true, false, ◌||◌, ◌&&◌, List, [], ◌∷◌, ◌++◌, length, get_or, take, drop, refl, ap, sym, ◌∙◌, arith, subst, true≢false}
+use Rattle.std.proofs.Common.{ℕ, ◌+◌, ◌-◌, ◌≤◌, ◌<◌, ◌≡◌, inl, inr, true, false, ◌||◌, ◌&&◌, List, [], ◌∷◌, ◌++◌, length, get_or, take, drop, refl, ap, sym, ◌∙◌, arith, subst, true≢false}
 use Rattle.std.proofs.lemmas.Bool.{cases_lt}
 use Rattle.std.proofs.lemmas.Bool.Decides.{nat_tests}
 use Rattle.std.proofs.lemmas.List.{get_or_append_left, get_or-append_right, length-append}
 use Rattle.std.proofs.lemmas.List.Elements.{All-head, All-tail}
 use Rattle.std.specs.Prelude.{All, not, Result, Ok, Err, OnOk}
+use Rattle.std.proofs.Math.Bool.{or-false}
 use Rattle.kc_graph.specs.Numbers.{RisesFrom, has_number}
 use Rattle.kc_graph.specs.Shape.{Pair, has_edge}
-use Rattle.kc_graph.specs.private.Halves.{IsCut, AreInside, AreGiven, AreGivenSome, AreTaken}
+use Rattle.kc_graph.specs.private.Halves.{IsCut, AreInside, AreGiven, AreGivenSome, AreTaken, AreChanged}
+use Rattle.kc_graph.specs.declared.sharing.Change.{Change}
+use Rattle.kc_graph.specs.declared.sharing.Change.TheVariants.{Give, Take}
 use Rattle.kc_graph.proofs.HalfLemmas.{has_edge-append, has_place, in_parts}
 
 none_low : (v u x : ℕ) (hs : List Pair) → All (λ h. h.0 < v) hs → v ≤ u → has_edge (u, x) hs ≡ false
@@ -24,13 +27,9 @@ none_high v u x (h ∷ hs) all lt =
     let later : has_edge (u, x) hs ≡ false = none_high v u x hs (All-tail (λ (g : Pair). v ≤ g.0) h hs all) lt in
     grind (arith, nat_tests)
 
-or_false : (b : Bool) → b || false ≡ b
-or_false true = refl
-or_false false = refl
-
 module _ (first v : ℕ) (low high : List Pair) (are_low : All (λ h. h.0 < v) low) (are_high : All (λ h. v ≤ h.0) high) where
   in_low : (u x : ℕ) → u < v → has_edge (u, x) (low ++ high) ≡ has_edge (u, x) low
-  in_low u x lt = has_edge-append (u, x) low high ∙ ap (λ b. has_edge (u, x) low || b) (none_high v u x high are_high lt) ∙ or_false (has_edge (u, x) low)
+  in_low u x lt = has_edge-append (u, x) low high ∙ ap (λ b. has_edge (u, x) low || b) (none_high v u x high are_high lt) ∙ or-false (has_edge (u, x) low)
 
   in_high : (u x : ℕ) → v ≤ u → has_edge (u, x) (low ++ high) ≡ has_edge (u, x) high
   in_high u x le = has_edge-append (u, x) low high ∙ ap (λ b. b || has_edge (u, x) high) (none_low v u x low are_low le)
@@ -114,39 +113,30 @@ module _ (first v : ℕ) (halves low high : List Pair) (at : IsCut halves v low 
   cut_row n inside = inside v at.other at.some
 
   pub low_inside : (n m : ℕ) → AreInside first n halves → m ≡ v - first → AreInside first m low
-  low_inside n m inside is u x there =
-      let below : u < v = elim (cases_lt u v) [
-        | inl lt ↦ lt
-        | inr ge ↦ absurd (true≢false (sym there ∙ none_low v u x low at.below ge))
-      ] in
-      let row = inside u x (at.all (u, x) ∙ ap (λ b. b || has_edge (u, x) high) there) in
-      (row.0, omega (arith, row.0, is, below))
+  low_inside n m inside is u x there = grind (arith, nat_tests, true≢false, none_low, at.below, at.all)
 
   pub high_inside : (n m : ℕ) → AreInside first n halves → m + (v - first) ≡ n → AreInside v m high
-  high_inside n m inside is u x there =
-      let from : v ≤ u = elim (cases_lt u v) [
-        | inl lt ↦ absurd (true≢false (sym there ∙ none_high v u x high at.from lt))
-        | inr ge ↦ ge
-      ] in
-      let row = inside u x (at.all (u, x) ∙ ap (λ b. has_edge (u, x) low || b) there ∙ or_true (has_edge (u, x) low)) in
-      let cut = cut_row n inside in
-      (from, omega (arith, row.1, cut.0, cut.1, is, from))
-    where
-      or_true : (b : Bool) → b || true ≡ true
-      or_true true = refl
-      or_true false = refl
+  high_inside n m inside is u x there = grind (arith, nat_tests, true≢false, none_high, cut_row, at.from, at.all)
 
   module _ (rows front back front' back' : List (List ℕ)) (split : rows ≡ front ++ back) (le : first ≤ v) (len_is : length front ≡ v - first) where
-    pub given_in_both : AreGiven first front front' low → AreGiven v back back' high → AreGiven first rows (front' ++ back') halves
+    given_in_both : AreGiven first front front' low → AreGiven v back back' high → AreGiven first rows (front' ++ back') halves
     given_in_both s t = rw split (same_given first (front ++ back) (front' ++ back') (low ++ high) halves whole (both_given first v low high at.below at.from front back front' back' le len_is s t))
 
-    pub given_some_in_both : AreGivenSome first front front' low → AreGivenSome v back back' high → AreGivenSome first rows (front' ++ back') halves
+    given_some_in_both : AreGivenSome first front front' low → AreGivenSome v back back' high → AreGivenSome first rows (front' ++ back') halves
     given_some_in_both s t = rw split (same_given_some first (front ++ back) (front' ++ back') (low ++ high) halves whole (both_given_some first v low high at.below at.from front back front' back' le len_is s t))
 
-    pub taken_in_both : AreTaken first front front' low → AreTaken v back back' high → AreTaken first rows (front' ++ back') halves
+    taken_in_both : AreTaken first front front' low → AreTaken v back back' high → AreTaken first rows (front' ++ back') halves
     taken_in_both s t = rw split (same_taken first (front ++ back) (front' ++ back') (low ++ high) halves whole (both_taken first v low high at.below at.from front back front' back' le len_is s t))
 
 -- what follows of two facts that hold where a call succeeds, holds there
-pub on_ok_both : {A E : Type 0} (r : Result A E) (P Q S : Type 0) → (P → Q → S) → OnOk r P → OnOk r Q → OnOk r S
+on_ok_both : {A E : Type 0} (r : Result A E) (P Q S : Type 0) → (P → Q → S) → OnOk r P → OnOk r Q → OnOk r S
 on_ok_both (Ok x) P Q S then p q = then p q
 on_ok_both (Err e) P Q S then p q = tt
+
+-- both parts of a cut are changed, and so are all rows
+pub changed_in_both : {A E : Type 0} (change : Change) (r : Result A E) (first v : ℕ) (halves low high : List Pair) → IsCut halves v low high → (rows front back front' back' : List (List ℕ)) → rows ≡ front ++ back → first ≤ v → length front ≡ v - first → AreChanged change r first front front' low → AreChanged change r v back back' high → AreChanged change r first rows (front' ++ back') halves
+changed_in_both Give r first v halves low high at rows front back front' back' split le len s t = (
+  on_ok_both r (AreGiven first front front' low) (AreGiven v back back' high) (AreGiven first rows (front' ++ back') halves) (given_in_both first v halves low high at rows front back front' back' split le len) s.0 t.0,
+  given_some_in_both first v halves low high at rows front back front' back' split le len s.1 t.1,
+)
+changed_in_both Take r first v halves low high at rows front back front' back' split le len s t = (s.0, taken_in_both first v halves low high at rows front back front' back' split le len s.1 t.1)

@@ -139,7 +139,7 @@ fn clean_all<R: Threads + Sync>(
     requires few { length items.now ≤ MAX_ITEMS }
     ensures { IfOk result (λ c. c ≡ cleaned graph.now items.now) }
 {
-    // The contract of `vertices` says that the edges of the graph ascend.
+    // Evidence for the check: the edges of the graph ascend.
     let _ = graph.vertices();
     let mut cleaned = walk_back(crew.alloc, graph, items)?.cleaned;
     cleaned.removed.sort(crew.rt, crew.workers);

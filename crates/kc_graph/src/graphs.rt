@@ -1,6 +1,6 @@
 //! A graph as a row of neighbours for each vertex: look-ups, and edges that come in or leave, singly or many together.
 
-ghost use Rattle.std.specs.Prelude.{◌≡◌, ℕ, ◌+◌, ◌<◌, ◌≤◌, [], length, slice_index, false, true, All, IfOk, OnOk, OnErr};
+ghost use Rattle.std.specs.Prelude.{◌≡◌, ℕ, ◌+◌, ◌<◌, ◌≤◌, [], get_or, length, slice_index, false, true, All, IfOk, OnOk, OnErr};
 ghost use Rattle.kc_graph.specs.Numbers.{RisesFrom};
 ghost use Rattle.kc_graph.specs.Shape.{GraphShape, EdgesFrom, IsGraph, neighbours_of, has_edge, with_edge, without_edge, with_edges, without_edges};
 ghost use Rattle.kc_graph.specs.Changes.{AllAbsent, AllPresent};
@@ -16,8 +16,8 @@ use std::alloc::{AllocError, Global};
 use std::marker::Model;
 use std::thread::Threads;
 
-// The number of rows that are prefetched together.
-const TOGETHER: usize = 16;
+/// The number of rows that are prefetched together.
+pub(crate) const TOGETHER: usize = 16;
 
 /// A graph on the vertices 0 to n - 1, without loops, each edge once.
 ///
@@ -97,23 +97,24 @@ impl Graph {
         self.rows[v as usize].as_slice()
     }
 
-    /// Prefetches the row of v: loads its first and its last neighbour. Always true.
+    /// Prefetches the row of v: loads its first and its last neighbour, so that they are in the cache for a pass over
+    /// the row. Always returns true; the caller tests the answer.
     ///
     /// Rows lie anywhere in memory, and loads from several rows take little longer than from one. So a loop over many
     /// rows prefetches some of them before it passes over these. The compiler can't know that the answer is true, so it
     /// keeps the loads.
-    pub fn is_at_hand(&self, v: u32) -> bool
+    pub fn prefetch_row(&self, v: u32) -> bool
         ensures { result ≡ true }
     {
         match self.rows.get(v as usize) {
-            Some(row) => row.is_at_hand(),
+            Some(row) => row.prefetch(),
             None => true,
         }
     }
 
     /// Returns `vertices[place]`, for loops over the rows of a list of vertices. At every 16th place it prefetches the
-    /// next 16 rows (`is_at_hand`).
-    pub fn in_turn(&self, vertices: &[u32], place: usize) -> u32
+    /// next 16 rows (`prefetch_row`).
+    pub fn vertex_with_prefetch(&self, vertices: &[u32], place: usize) -> u32
         requires { place < length vertices.now }
         ensures { result ≡ slice_index vertices.now place }
     {
@@ -122,11 +123,30 @@ impl Graph {
             return v;
         }
         for k in place..vertices.len().min(place + TOGETHER) {
-            if !self.is_at_hand(vertices[k]) {
+            if !self.prefetch_row(vertices[k]) {
                 return 0;
             }
         }
         v
+    }
+
+    /// Returns `edges[place]`, for loops over edges that come in or leave one by one. At every 16th place it prefetches
+    /// the rows of both ends of the next 16 edges (`prefetch_row`).
+    pub fn edge_with_prefetch(&self, edges: &[Edge], place: usize) -> Edge
+        requires { place < length edges.now }
+        ensures { result ≡ get_or edges.now place (0, 0) }
+    {
+        let e = edges[place];
+        if place % TOGETHER > 0 {
+            return e;
+        }
+        for k in place..edges.len().min(place + TOGETHER) {
+            let near = edges[k];
+            if !(self.prefetch_row(near.a) && self.prefetch_row(near.b)) {
+                return near;
+            }
+        }
+        e
     }
 
     /// Puts in an edge that isn't there (`with_edge`). Fewer than `MAX_EDGES` edges are there before.

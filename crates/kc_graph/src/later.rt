@@ -6,7 +6,7 @@ ghost use Rattle.kc_graph.specs.Shape.{IsGraph, same_edge, neighbours_of};
 ghost use Rattle.kc_graph.specs.Cleaning.{IsInside, holds, pair_of};
 ghost use Rattle.kc_graph.specs.Keys.{edge_of, decided};
 ghost use Rattle.kc_graph.specs.private.Keys.{repeated};
-ghost use Rattle.kc_graph.specs.private.Later.{is_noted, isolated, untouched_at, ComesTo};
+ghost use Rattle.kc_graph.specs.private.Later.{is_noted, isolated, untouched_at, IsNetEffect};
 
 use crate::cleaning::Cleaned;
 use crate::edge_lists::Edges;
@@ -18,7 +18,7 @@ use crate::limits::MAX_ITEMS;
 use crate::touched::Touched;
 use std::alloc::{AllocError, Global};
 
-/// The net effect of the later items of a batch, in a walk from its last item to its first (`ComesTo`).
+/// The net effect of the later items of a batch, in a walk from its last item to its first (`IsNetEffect`).
 #[derive(Drop)]
 pub struct Later {
     /// The counts, and the two lists in any order.
@@ -55,7 +55,7 @@ fn take_row(removed: &mut Edges, touched: &Touched, v: u32, row: &[u32]) -> Resu
 
 impl Later {
     fn of_none(alloc: Global) -> Self
-        ensures { (edges : _) → ComesTo edges [] result }
+        ensures { (edges : _) → IsNetEffect edges [] result }
     {
         Later {
             cleaned: Cleaned::of_loops(alloc, 0),
@@ -114,7 +114,7 @@ impl Later {
         requires loops_room { self.old.cleaned.loops < MAX_ITEMS }
         requires repeats_room { self.old.cleaned.repeats < MAX_ITEMS }
         requires idle_room { self.old.cleaned.idle < MAX_ITEMS }
-        ensures { OnOk result ((later : _) → ComesTo graph.now.edges later self.old → ComesTo graph.now.edges (item ∷ later) self.new) }
+        ensures { OnOk result ((later : _) → IsNetEffect graph.now.edges later self.old → IsNetEffect graph.now.edges (item ∷ later) self.new) }
     {
         match (Key::of(item), item) {
             (Some(key), _) => {
@@ -133,14 +133,14 @@ impl Later {
     }
 }
 
-/// Returns the net effect of the items of a batch, with the two lists in any order (`ComesTo`).
+/// Returns the net effect of the items of a batch, with the two lists in any order (`IsNetEffect`).
 ///
 /// Costs a look-up in a tree of pairs for each item, and for each neighbour of an isolated vertex, once a vertex.
 pub fn walk_back(alloc: Global, graph: &Graph, items: &[Item]) -> Result<Later, AllocError>
     requires graph { IsGraph graph.now }
     requires inside { All (IsInside graph.now.vertices) items.now }
     requires few { length items.now ≤ MAX_ITEMS }
-    ensures { IfOk result (ComesTo graph.now.edges items.now) }
+    ensures { IfOk result (IsNetEffect graph.now.edges items.now) }
 {
     let mut later = Later::of_none(alloc);
     let mut place = items.len();

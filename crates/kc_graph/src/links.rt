@@ -49,12 +49,12 @@ struct Ahead {
     above: usize,
 }
 
-// Prefetches the row of v. Always true, since rows ascend; the compiler can't know that, so it keeps the loads.
-fn is_at_hand(rows: &[Row], first: u32, v: u32) -> bool
+// Prefetches the row of v. Always returns true, since rows ascend; the compiler can't know that, so it keeps the loads.
+fn prefetch_row(rows: &[Row], first: u32, v: u32) -> bool
     ensures { result ≡ true }
 {
     match rows.get(v.saturating_sub(first) as usize) {
-        Some(row) => row.is_at_hand(),
+        Some(row) => row.prefetch(),
         None => true,
     }
 }
@@ -78,8 +78,8 @@ impl InRow for Edge {
 }
 
 // Prefetches the rows of the first items of a list if no more than `left` items are left. Then `left` is how many are
-// left when those are done with. Always true.
-fn are_at_hand<T: InRow>(rows: &[Row], first: u32, rest: &[T], left: &mut usize) -> bool
+// left when those are done with. Always returns true.
+fn prefetch_rows<T: InRow>(rows: &[Row], first: u32, rest: &[T], left: &mut usize) -> bool
     ensures { result ≡ true }
 {
     let count = rest.len();
@@ -87,7 +87,7 @@ fn are_at_hand<T: InRow>(rows: &[Row], first: u32, rest: &[T], left: &mut usize)
         return true;
     }
     for item in &rest[..count.min(AHEAD)] {
-        if !is_at_hand(rows, first, item.vertex()) {
+        if !prefetch_row(rows, first, item.vertex()) {
             return false;
         }
     }
@@ -110,8 +110,8 @@ impl Ahead {
         ensures some { IfSome result (λ r. IsRun (halves_of rest.entry) r.v (halves_of r.halves) (halves_of r.later)) }
         ensures none { IfNone result (halves_of rest.entry ≡ []) }
     {
-        if are_at_hand(rows, first, rest.below, &mut self.below)
-            && are_at_hand(rows, first, rest.above, &mut self.above)
+        if prefetch_rows(rows, first, rest.below, &mut self.below)
+            && prefetch_rows(rows, first, rest.above, &mut self.above)
         {
             rest.next_run()
         } else {

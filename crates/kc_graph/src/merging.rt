@@ -51,31 +51,6 @@ pub fn close(items: &mut Vec<u32>, from: usize, to: usize)
     }
 }
 
-// Does what `keep_others` does, number by number.
-fn keep_each(items: &mut Vec<u32>, outgoing: Halves<'_>) -> usize
-    requires rises { RisesFrom 0 items.old.items }
-    requires outgoing { SecondsRise (halves_of outgoing) }
-    ensures within { result ≤ length items.new.items }
-    ensures kept { take result items.new.items ≡ filter (λ x. not (has_second x (halves_of outgoing.entry))) items.old.items }
-{
-    let mut kept = 0;
-    let mut i = 0;
-    for j in 0..outgoing.len() {
-        let x = outgoing.other_at(j);
-        while i < items.len() && items[i] < x {
-            items[kept] = items[i];
-            kept += 1;
-            i += 1;
-        }
-        if i < items.len() && items[i] == x {
-            i += 1;
-        }
-    }
-    let end = items.len();
-    items.copy_within(i..end, kept);
-    kept + (end - i)
-}
-
 // Returns the first place of an ascending list, from one place on, whose number isn't below x.
 fn place_from(items: &[u32], from: usize, x: u32) -> usize
     requires inside { from ≤ length items.now }
@@ -98,21 +73,37 @@ fn place_from(items: &[u32], from: usize, x: u32) -> usize
     low
 }
 
-// Does what `keep_others` does, by a search for each number that leaves. Moves the numbers between two of them at once.
-fn keep_runs(items: &mut Vec<u32>, outgoing: Halves<'_>) -> usize
+// If a list has this many numbers for each that leaves, or more, a search for each costs less than a look at every
+// number.
+const LEAST_RUN: usize = 16;
+
+/// Moves the numbers that stay to the front, in their order, and returns how many they are.
+///
+/// Looks at every number. If few leave a long list, searches each of them and moves the numbers between two of them at
+/// once.
+pub fn keep_others(items: &mut Vec<u32>, outgoing: Halves<'_>) -> usize
     requires rises { RisesFrom 0 items.old.items }
     requires outgoing { SecondsRise (halves_of outgoing) }
     ensures within { result ≤ length items.new.items }
     ensures kept { take result items.new.items ≡ filter (λ x. not (has_second x (halves_of outgoing.entry))) items.old.items }
 {
+    let searches = outgoing.len() <= items.len() / LEAST_RUN;
     let mut kept = 0;
     let mut from = 0;
     for j in 0..outgoing.len() {
         let x = outgoing.other_at(j);
-        let place = place_from(items, from, x);
-        items.copy_within(from..place, kept);
-        kept += place - from;
-        from = place;
+        if searches {
+            let place = place_from(items, from, x);
+            items.copy_within(from..place, kept);
+            kept += place - from;
+            from = place;
+        } else {
+            while from < items.len() && items[from] < x {
+                items[kept] = items[from];
+                kept += 1;
+                from += 1;
+            }
+        }
         if from < items.len() && items[from] == x {
             from += 1;
         }
@@ -120,22 +111,4 @@ fn keep_runs(items: &mut Vec<u32>, outgoing: Halves<'_>) -> usize
     let end = items.len();
     items.copy_within(from..end, kept);
     kept + (end - from)
-}
-
-// If a row has this many numbers for each that leaves, or more, a search for each costs less than a look at every
-// number.
-const LEAST_RUN: usize = 16;
-
-/// Moves the numbers that stay to the front, in their order, and returns how many they are.
-pub fn keep_others(items: &mut Vec<u32>, outgoing: Halves<'_>) -> usize
-    requires rises { RisesFrom 0 items.old.items }
-    requires outgoing { SecondsRise (halves_of outgoing) }
-    ensures within { result ≤ length items.new.items }
-    ensures kept { take result items.new.items ≡ filter (λ x. not (has_second x (halves_of outgoing.entry))) items.old.items }
-{
-    if outgoing.len() <= items.len() / LEAST_RUN {
-        keep_runs(items, outgoing)
-    } else {
-        keep_each(items, outgoing)
-    }
 }

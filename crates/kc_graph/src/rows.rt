@@ -45,6 +45,23 @@ fn ends_below(items: &[u32], x: u32) -> bool
     }
 }
 
+// The least number of numbers for which a row takes memory.
+const LEAST_ROOM: usize = 6;
+
+// Makes room for further numbers. A full row gets room for two more than twice its numbers: 6, 14, 30 and so on. An
+// allocator puts a word before each block, so these fill 32, 64 and 128 bytes. Such rows grow less often than those of
+// 4, 8 and 16 numbers, and lie closer together. Fails only if memory runs out.
+fn make_room(items: &mut Vec<u32>, further: usize) -> Result<(), AllocError>
+    ensures { items.new.items ≡ items.old.items }
+{
+    let len = items.len();
+    if items.capacity() - len < further {
+        let room = len.saturating_add(2).max(LEAST_ROOM).max(further);
+        items.reserve_exact(room)?;
+    }
+    Ok(())
+}
+
 impl Row {
     pub fn new(alloc: Global) -> Self
         ensures { result ≡ [] }
@@ -60,9 +77,9 @@ impl Row {
         self.items.as_slice()
     }
 
-    /// Prefetches the row: loads its first and its last number, for a pass over the row. Always true, since a row
-    /// ascends.
-    pub fn is_at_hand(&self) -> bool
+    /// Prefetches the row: loads its first and its last number, for a pass over the row. Always returns true, since a
+    /// row ascends.
+    pub fn prefetch(&self) -> bool
         ensures { result ≡ true }
     {
         let n = self.items.len();
@@ -83,12 +100,14 @@ impl Row {
         ensures err { OnErr result (self.new ≡ self.old) }
     {
         if ends_below(&self.items, x) {
+            make_room(&mut self.items, 1)?;
             self.items.push(x)?;
             return Ok(());
         }
         match place_of(&self.items, x) {
             Ok(_) => Ok(()),
             Err(place) => {
+                make_room(&mut self.items, 1)?;
                 self.items.insert(place, x)?;
                 Ok(())
             }
@@ -127,6 +146,7 @@ impl Row {
         ensures err { OnErr result (self.new ≡ self.old) }
     {
         let old = self.items.len();
+        make_room(&mut self.items, incoming.len())?;
         self.items.resize(old + incoming.len(), 0)?;
         let (end, next) = merge_back(&mut self.items, old, incoming);
         close(&mut self.items, end, next);

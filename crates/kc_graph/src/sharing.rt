@@ -5,7 +5,7 @@ ghost use Rattle.std.specs.Prelude.{◌<◌, ◌≤◌, length, All, IfSome, OnO
 ghost use Rattle.std.specs.Bool.{OnTrue};
 ghost use Rattle.std.specs.Thread.{IsSync};
 ghost use Rattle.kc_graph.specs.private.HalfLists.{halves_of};
-ghost use Rattle.kc_graph.specs.private.Halves.{IsCut, AreInside, AreGiven, AreGivenSome, AreTaken};
+ghost use Rattle.kc_graph.specs.private.Halves.{IsCut, AreInside, AreGiven, AreGivenSome, AreTaken, AreChanged};
 
 use crate::crew::Crew;
 use crate::halves::Halves;
@@ -17,6 +17,15 @@ use std::thread::{Threads, join_mut};
 // The least number of halves of a part. Fewer than twice as many aren't cut. To start two threads costs 30 to 40
 // microseconds, and a part of this length about a hundred or more.
 const LEAST_PART: usize = 4_096;
+
+/// What is done with halves at the rows of their vertices.
+#[derive(Clone, Copy)]
+pub enum Change {
+    /// The other ends come in. This fails if memory runs out.
+    Give,
+    /// The other ends leave. This never fails.
+    Take,
+}
 
 // Halves of vertices from `first` on, for rows of which the first is that of `first`.
 #[derive(Clone, Copy)]
@@ -162,94 +171,73 @@ impl<'a> Part<'a> {
     }
 }
 
-// Does what `give_all` does, with the threads of the crew if the halves are enough to be cut. Each thread has the rows
-// of consecutive vertices for itself, and the halves of these.
-#[cycle(giving)]
-fn give_parts<R: Threads + Sync>(
+// Puts the other ends of the halves into the rows of their vertices (`give_all`), or takes them out (`take_all`).
+fn change_all(change: Change, part: Part<'_>, rows: &mut [Row]) -> Result<(), AllocError>
+    requires { AreInside part.first (length rows.old) (halves_of part.halves) }
+    ensures { AreChanged change result part.entry.first rows.old rows.new (halves_of part.entry.halves) }
+{
+    match change {
+        Change::Give => give_all(part.first, part.halves, rows),
+        Change::Take => {
+            take_all(part.first, part.halves, rows);
+            Ok(())
+        }
+    }
+}
+
+// Does what `change_all` does, with the threads of the crew if the halves are enough to be cut. Each thread has the
+// rows of consecutive vertices for itself, and the halves of these.
+#[cycle(changing)]
+fn change_parts<R: Threads + Sync>(
     crew: &Crew<'_, R>,
+    change: Change,
     part: Part<'_>,
     rows: &mut [Row],
 ) -> Result<(), AllocError>
     requires { AreInside part.first (length rows.old) (halves_of part.halves) }
-    ensures ok { OnOk result (AreGiven part.entry.first rows.old rows.new (halves_of part.entry.halves)) }
-    ensures some { AreGivenSome part.entry.first rows.old rows.new (halves_of part.entry.halves) }
+    ensures { AreChanged change result part.entry.first rows.old rows.new (halves_of part.entry.halves) }
 {
     if let Some((low, high)) = part.cut(crew) {
         let (front, back) = rows.split_at_mut((high.first - part.first) as usize);
-        return give_both(crew, low, high, front, back);
+        return change_both(crew, change, (low, high), front, back);
     }
-    give_all(part.first, part.halves, rows)
+    change_all(change, part, rows)
 }
 
-#[cycle(giving)]
-fn give_both<R: Threads + Sync>(
+// Does what `change_parts` does for two parts, with the rows of each.
+#[cycle(changing)]
+fn change_both<R: Threads + Sync>(
     crew: &Crew<'_, R>,
-    low: Part<'_>,
-    high: Part<'_>,
+    change: Change,
+    parts: (Part<'_>, Part<'_>),
     front: &mut [Row],
     back: &mut [Row],
 ) -> Result<(), AllocError>
     requires several { 2 ≤ crew.now.workers }
-    requires front { AreInside low.first (length front.old) (halves_of low.halves) }
-    requires back { AreInside high.first (length back.old) (halves_of high.halves) }
-    ensures front { OnOk result (AreGiven low.entry.first front.old front.new (halves_of low.entry.halves)) }
-    ensures back { OnOk result (AreGiven high.entry.first back.old back.new (halves_of high.entry.halves)) }
-    ensures some_front { AreGivenSome low.entry.first front.old front.new (halves_of low.entry.halves) }
-    ensures some_back { AreGivenSome high.entry.first back.old back.new (halves_of high.entry.halves) }
+    requires front { AreInside parts.0.first (length front.old) (halves_of parts.0.halves) }
+    requires back { AreInside parts.1.first (length back.old) (halves_of parts.1.halves) }
+    ensures front { AreChanged change result parts.entry.0.first front.old front.new (halves_of parts.entry.0.halves) }
+    ensures back { AreChanged change result parts.entry.1.first back.old back.new (halves_of parts.entry.1.halves) }
 {
+    let (low, high) = parts;
     let mut left = || -> Result<(), AllocError>
         requires { IsSync R.row × (2 ≤ crew.now.workers) × AreInside low.first (length front.now) (halves_of low.halves) }
-        ensures ok { OnOk result (AreGiven low.entry.first front.entry.now front.exit.now (halves_of low.entry.halves)) }
-        ensures some { AreGivenSome low.entry.first front.entry.now front.exit.now (halves_of low.entry.halves) }
-    { give_parts(&crew.with(crew.workers / 2), low, front) };
+        ensures { AreChanged change result low.entry.first front.entry.now front.exit.now (halves_of low.entry.halves) }
+    { change_parts(&crew.with(crew.workers / 2), change, low, front) };
     let mut right = || -> Result<(), AllocError>
         requires { IsSync R.row × (2 ≤ crew.now.workers) × AreInside high.first (length back.now) (halves_of high.halves) }
-        ensures ok { OnOk result (AreGiven high.entry.first back.entry.now back.exit.now (halves_of high.entry.halves)) }
-        ensures some { AreGivenSome high.entry.first back.entry.now back.exit.now (halves_of high.entry.halves) }
-    { give_parts(&crew.with(crew.workers - crew.workers / 2), high, back) };
-    let (given_front, given_back) = join_mut(crew.rt, &mut left, &mut right);
-    given_front?;
-    given_back
-}
-
-// Does what `take_all` does, with the threads of the crew if the halves are enough to be cut. Each thread has the rows
-// of consecutive vertices for itself, and the halves of these.
-#[cycle(taking)]
-fn take_parts<R: Threads + Sync>(crew: &Crew<'_, R>, part: Part<'_>, rows: &mut [Row])
-    requires { AreInside part.first (length rows.old) (halves_of part.halves) }
-    ensures { AreTaken part.entry.first rows.old rows.new (halves_of part.entry.halves) }
-{
-    if let Some((low, high)) = part.cut(crew) {
-        let (front, back) = rows.split_at_mut((high.first - part.first) as usize);
-        take_both(crew, low, high, front, back);
-        return;
-    }
-    take_all(part.first, part.halves, rows);
-}
-
-#[cycle(taking)]
-fn take_both<R: Threads + Sync>(
-    crew: &Crew<'_, R>,
-    low: Part<'_>,
-    high: Part<'_>,
-    front: &mut [Row],
-    back: &mut [Row],
-)
-    requires several { 2 ≤ crew.now.workers }
-    requires front { AreInside low.first (length front.old) (halves_of low.halves) }
-    requires back { AreInside high.first (length back.old) (halves_of high.halves) }
-    ensures front { AreTaken low.entry.first front.old front.new (halves_of low.entry.halves) }
-    ensures back { AreTaken high.entry.first back.old back.new (halves_of high.entry.halves) }
-{
-    let mut left = ||
-        requires { IsSync R.row × (2 ≤ crew.now.workers) × AreInside low.first (length front.now) (halves_of low.halves) }
-        ensures { AreTaken low.entry.first front.entry.now front.exit.now (halves_of low.entry.halves) }
-    { take_parts(&crew.with(crew.workers / 2), low, front) };
-    let mut right = ||
-        requires { IsSync R.row × (2 ≤ crew.now.workers) × AreInside high.first (length back.now) (halves_of high.halves) }
-        ensures { AreTaken high.entry.first back.entry.now back.exit.now (halves_of high.entry.halves) }
-    { take_parts(&crew.with(crew.workers - crew.workers / 2), high, back) };
-    join_mut(crew.rt, &mut left, &mut right);
+        ensures { AreChanged change result high.entry.first back.entry.now back.exit.now (halves_of high.entry.halves) }
+    {
+        change_parts(
+            &crew.with(crew.workers - crew.workers / 2),
+            change,
+            high,
+            back,
+        )
+    };
+    let (low_result, high_result) = join_mut(crew.rt, &mut left, &mut right);
+    low_result?;
+    high_result
 }
 
 /// Puts the other end of each half into the row of its vertex. The rows are those of all vertices. Fails only if memory
@@ -280,7 +268,8 @@ pub fn give_by<R: Threads + Sync>(
     ensures ok { OnOk result (AreGiven 0 rows.old.items rows.new.items (halves_of halves.entry)) }
     ensures some { AreGivenSome 0 rows.old.items rows.new.items (halves_of halves.entry) }
 {
-    give_parts(crew, Part { first: 0, halves }, rows.as_mut_slice())
+    let part = Part { first: 0, halves };
+    change_parts(crew, Change::Give, part, rows.as_mut_slice())
 }
 
 /// Does what `take_alone` does. If the halves are many, the threads of the crew do it, each at rows of its own.
@@ -288,5 +277,7 @@ pub fn take_by<R: Threads + Sync>(crew: &Crew<'_, R>, halves: Halves<'_>, rows: 
     requires { AreInside 0 (length rows.old.items) (halves_of halves) }
     ensures { AreTaken 0 rows.old.items rows.new.items (halves_of halves.entry) }
 {
-    take_parts(crew, Part { first: 0, halves }, rows.as_mut_slice());
+    let part = Part { first: 0, halves };
+    // Taking out never fails.
+    change_parts(crew, Change::Take, part, rows.as_mut_slice()).ok();
 }

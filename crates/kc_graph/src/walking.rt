@@ -7,7 +7,7 @@ ghost use Rattle.kc_graph.specs.private.Walks.{net_of, AreKeys, IsPairCut};
 
 use crate::cleaning::Cleaned;
 use crate::crew::Crew;
-use crate::graphs::Graph;
+use crate::graphs::{Graph, TOGETHER};
 use crate::keys::Key;
 use crate::limits::MAX_VERTICES;
 use std::alloc::{AllocError, Global};
@@ -16,18 +16,15 @@ use std::thread::{Threads, join_mut};
 // The least number of keys of a part. Fewer than twice as many aren't cut: they cost little more than threads do.
 const LEAST_WALK: usize = 4_096;
 
-// The number of keys whose rows are prefetched together.
-const TOGETHER: usize = 16;
-
-// Prefetches the rows of the lesser vertices of the first keys. Always true; the compiler can't know that, so it keeps
-// the loads.
-fn are_at_hand(graph: &Graph, bits: u32, keys: &[u64]) -> bool
+// Prefetches the rows of the lesser vertices of the first keys. Always returns true; the compiler can't know that, so
+// it keeps the loads.
+fn prefetch_rows(graph: &Graph, bits: u32, keys: &[u64]) -> bool
     requires { bits ≤ 24 }
     ensures { result ≡ true }
 {
     for k in 0..keys.len().min(TOGETHER) {
         let a = keys[k] / 2 >> bits;
-        if a < MAX_VERTICES as u64 && !graph.is_at_hand(a as u32) {
+        if a < MAX_VERTICES as u64 && !graph.prefetch_row(a as u32) {
             return false;
         }
     }
@@ -46,11 +43,11 @@ fn ends_pair(key: u64, later: &[u64]) -> bool
 
 // Returns whether the key is the last of its pair (`is_last_of_pair`). At every 16th key it prefetches the rows of the
 // next 16.
-fn is_last_in_turn(graph: &Graph, bits: u32, key: u64, later: &[u64]) -> bool
+fn ends_pair_with_prefetch(graph: &Graph, bits: u32, key: u64, later: &[u64]) -> bool
     requires { bits ≤ 24 }
     ensures { result ≡ is_last_of_pair (unpacked bits key) (map (unpacked bits) later.now) }
 {
-    if later.len() % TOGETHER == 0 && !are_at_hand(graph, bits, later) {
+    if later.len() % TOGETHER == 0 && !prefetch_rows(graph, bits, later) {
         return false;
     }
     ends_pair(key, later)
@@ -64,7 +61,7 @@ fn walk(alloc: Global, graph: &Graph, bits: u32, keys: &[u64]) -> Result<Cleaned
     let mut cleaned = Cleaned::of_loops(alloc, 0);
     let mut rest = keys;
     while let Some((key, later)) = rest.split_first() {
-        if is_last_in_turn(graph, bits, *key, later) {
+        if ends_pair_with_prefetch(graph, bits, *key, later) {
             cleaned.decide(graph, &Key::unpacked(bits, *key))?;
         } else {
             cleaned.repeats += 1;

@@ -3,6 +3,8 @@ use Rattle.std.proofs.Common.{ℕ, suc, zero, ◌≤◌, ◌<◌, ◌≡◌, ◌
 use Rattle.std.proofs.lemmas.Bool.{cases_eq, cases_lt, cases_Bool, true≢false}
 use Rattle.std.proofs.lemmas.Bool.Decides.{nat_tests}
 use Rattle.std.proofs.lemmas.List.{get_or_past, take-map}
+use Rattle.std.proofs.Math.Bool.{or-true}
+use Rattle.std.proofs.lemmas.Grind.{common_steps}
 use Rattle.kc_graph.specs.Numbers.{AllBelow, has_number}
 use Rattle.kc_graph.specs.Shape.{GraphShape, Pair, IsGraph, has_edge, joined, with_edges, without_edges}
 use Rattle.kc_graph.proofs.lemmas.Changes.{vertices-without_edges, has_edge-with_edges, has_edge-without_edges, removals_keep_graph, inside_from_ascending}
@@ -15,17 +17,13 @@ use Rattle.kc_history.specs.Points.{graph_after, levels_after}
 use Rattle.kc_groups.specs.declared.plans.PhasePlan.{PhasePlan}
 use Rattle.kc_groups.specs.Links.{AreLabels}
 use Rattle.kc_groups.specs.private.Labels.{AreJoined, AreRooted}
-use Rattle.kc_groups.specs.Entries.{labels_below, group_entry, quiet_entry, ends_at, is_quiet, entries_of, AreEntries}
+use Rattle.kc_groups.specs.Entries.{labels_below, group_entry, quiet_entry, ends_at, entries_of, AreEntries}
 use Rattle.kc_groups.specs.Laws.{IsPhase, PointsLieBetween}
 use Rattle.kc_groups.proofs.LabelLaw.{labels_joined}
 use Rattle.kc_groups.proofs.ListLemmas.{labels_rise}
 use Rattle.kc_groups.proofs.EndLemmas.{edge_label, edge_joined, rooted, IsAt, is_at, ends_yes, ends_no, label_root}
 use Rattle.kc_groups.proofs.EdgesLaw.{present_in}
 use Rattle.kc_groups.proofs.LeadLaw.{AreOnTheWay, groups_lead, any_has, plan_toward, added, removed}
-
-or_true : (b : Bool) → b || true ≡ true
-or_true true = refl
-or_true false = refl
 
 and_second : (a b : Bool) → a && b ≡ true → b ≡ true
 and_second true b h = h
@@ -49,8 +47,7 @@ module _ (phase : ℕ) (add : Bool) (edges : List Pair) (x y labels : List ℕ) 
 
   groups_out : (e : Pair) (rs : List ℕ) → has_edge e edges ≡ false → any_has e (map of rs) ≡ false
   groups_out e [] none = refl
-  groups_out e (r ∷ rs) none =
-      ap (λ b. b || any_has e (map of rs)) (filtered_none e (ends_at labels r) edges none) ∙ groups_out e rs none
+  groups_out e (r ∷ rs) none = grind (arith, nat_tests, common_steps, groups_out e rs none, filtered_none)
 
   groups_hidden : (e : Pair) (l : ℕ) (rs : List ℕ) → IsAt g.vertices l (get_or labels e.0 0) (get_or labels e.1 0) → AllBelow g.vertices rs → has_number l rs ≡ false → any_has e (map of rs) ≡ false
   groups_hidden e l [] at below hidden = refl
@@ -66,7 +63,7 @@ module _ (phase : ℕ) (add : Bool) (edges : List Pair) (x y labels : List ℕ) 
         ap (λ b. b || any_has e (map of rs))
         (has_edge-filter e (ends_at labels r) edges ∙ ap (λ b. b && has_edge e edges) (ap (λ t. ends_at labels t e) same ∙ ends_yes g.vertices l labels e at) ∙ has)
     | inr ne ↦
-        ap (λ b. has_edge e (filter (ends_at labels r) edges) || b) (groups_shown e l rs at has (grind (arith, nat_tests, shown, ne))) ∙ or_true (has_edge e (filter (ends_at labels r) edges))
+        ap (λ b. has_edge e (filter (ends_at labels r) edges) || b) (groups_shown e l rs at has (grind (arith, nat_tests, shown, ne))) ∙ or-true (has_edge e (filter (ends_at labels r) edges))
   ]
 
   end_label : (e : Pair) (v : ℕ) → AreRooted g.vertices (is_moved x y) labels → IsAt g.vertices (edge_label x y labels e) (get_or labels e.0 0) (get_or labels e.1 0) → (v ≡ e.0) ⊎ (v ≡ e.1) → v < g.vertices → is_moved x y v ≡ true → edge_label x y labels e ≡ get_or labels v 0
@@ -84,83 +81,37 @@ module _ (phase : ℕ) (add : Bool) (edges : List Pair) (x y labels : List ℕ) 
 
     -- an edge of the phase at a vertex that moves is in one of the entries exactly where its label is among theirs
     any_at : (e : Pair) (v : ℕ) → (v ≡ e.0) ⊎ (v ≡ e.1) → v < g.vertices → is_moved x y v ≡ true → any_has e (quiet_entry phase add edges x y ∷ map of rs) ≡ has_number (get_or labels v 0) rs && has_edge e edges
-    any_at e v end h m = elim (cases_Bool (has_edge e edges)) [
-      | inr none ↦
-          ap (λ b. b || any_has e (map of rs)) (filtered_none e (is_quiet x y) edges none) ∙ groups_out e rs none
-          ∙ sym (ap (λ b. has_number (get_or labels v 0) rs && b) none ∙ and_false (has_number (get_or labels v 0) rs))
-      | inl has ↦
-          let r = rooted g (is_moved x y) labels are joins in
-          let j = edge_joined g (is_moved x y) labels e is.graph joins (present_in g e edges is.present has) in
-          let at = is_at g.vertices x y labels e r j in
-          let same = end_label e v r at end h m in
-          let low : edge_label x y labels e < g.vertices = omega (arith, same, (r.root v h m).0) in
-          let quiet : has_edge e (filter (is_quiet x y) edges) ≡ false = has_edge-filter e (is_quiet x y) edges ∙ ap (λ b. b && has_edge e edges) (label_root g.vertices x y labels e r j low).1 in
-          ap (λ b. b || any_has e (map of rs)) quiet
-          ∙ elim (cases_Bool (has_number (get_or labels v 0) rs)) [
-            | inl shown ↦ groups_shown e (edge_label x y labels e) rs at has (ap (λ l. has_number l rs) same ∙ shown) ∙ sym (ap (λ b. b && has_edge e edges) shown ∙ has)
-            | inr hidden ↦ groups_hidden e (edge_label x y labels e) rs at below (ap (λ l. has_number l rs) same ∙ hidden) ∙ sym (ap (λ b. b && has_edge e edges) hidden)
-          ]
-    ]
-      where
-        and_false : (b : Bool) → b && false ≡ false
-        and_false true = refl
-        and_false false = refl
+    any_at e v end h m = grind (arith, nat_tests, common_steps, filtered_none, groups_out, rooted, joins, edge_joined, present_in, is_at, end_label, edge_label, has_edge-filter, label_root, groups_shown, groups_hidden, is.graph, is.present)
 
     -- an edge of an entry is one of the phase
     any_inside : (e : Pair) → any_has e (quiet_entry phase add edges x y ∷ map of rs) ≡ true → has_edge e edges ≡ true
-    any_inside e any = elim (cases_Bool (has_edge e edges)) [
-      | inl has ↦ has
-      | inr none ↦ absurd (true≢false (sym any ∙ ap (λ b. b || any_has e (map of rs)) (filtered_none e (is_quiet x y) edges none) ∙ groups_out e rs none))
-    ]
+    any_inside e any = grind (arith, nat_tests, common_steps, true≢false, filtered_none, groups_out)
 
     module _ (z : List ℕ) (way : AreOnTheWay g.vertices x y z (λ v. has_number (get_or labels v 0) rs)) where
       still : (v : ℕ) → v < g.vertices → is_moved x y v ≡ false → (get_or x v 0 ≡ get_or y v 0) × (get_or z v 0 ≡ get_or y v 0)
       still v h m = let same : get_or x v 0 ≡ get_or y v 0 = grind (arith, nat_tests, m) in (same, way.kept v h same)
 
       near_old : (v w : ℕ) → v < g.vertices → is_moved x y v ≡ true → has_number (get_or labels v 0) rs ≡ false → joined v w g.edges ≡ true → get_or z w 0 ≡ get_or x w 0
-      near_old v w h m hidden share =
-          let inside : w < g.vertices = (joined_inside g.vertices 0 0 v w g.edges is.graph share).1 in
-          elim (cases_Bool (is_moved x y w)) [
-            | inl mw ↦ way.left w inside (ap (λ l. has_number l rs) (joins.one v w h (record { from = m; to = mw; edge = share })) ∙ hidden)
-            | inr sw ↦ let s = still w inside sw in s.1 ∙ sym s.0
-          ]
+      near_old v w h m hidden share = grind (arith, nat_tests, common_steps, joined_inside, joins, still, is.graph, way.left)
 
       near_new : (v w : ℕ) → v < g.vertices → is_moved x y v ≡ true → has_number (get_or labels v 0) rs ≡ true → joined v w g.edges ≡ true → get_or z w 0 ≡ get_or y w 0
-      near_new v w h m shown share =
-          let inside : w < g.vertices = (joined_inside g.vertices 0 0 v w g.edges is.graph share).1 in
-          elim (cases_Bool (is_moved x y w)) [
-            | inl mw ↦ way.reached w inside (ap (λ l. has_number l rs) (joins.one v w h (record { from = m; to = mw; edge = share })) ∙ shown)
-            | inr sw ↦ (still w inside sw).1
-          ]
+      near_new v w h m shown share = grind (arith, nat_tests, common_steps, joined_inside, joins, still, is.graph, way.reached)
 
       -- a level is the old or the new one
       either : (w : ℕ) → (get_or z w 0 ≡ get_or x w 0) ⊎ (get_or z w 0 ≡ get_or y w 0)
-      either w = elim (cases_lt w g.vertices) [
-        | inr out ↦ inl (get_or_past z w 0 (omega (arith, out, way.sized)) ∙ sym (get_or_past x w 0 (omega (arith, out, is.before))))
-        | inl inside ↦ elim (cases_Bool (has_number (get_or labels w 0) rs)) [
-          | inl shown ↦ inr (way.reached w inside shown)
-          | inr hidden ↦ inl (way.left w inside hidden)
-        ]
-      ]
+      either w = grind (arith, nat_tests, common_steps, get_or_past, way.sized, is.before, way.reached, way.left)
 
       from_old : (w : ℕ) → IsBelow g.vertices x y → (get_or x w 0 ≤ get_or z w 0) × (get_or z w 0 ≤ get_or y w 0)
-      from_old w low =
-          let le : get_or x w 0 ≤ get_or y w 0 = all_below g.vertices x y is.before low w in
-          elim (either w) [ inl old ↦ (omega (arith, old), omega (arith, old, le)) | inr new ↦ (omega (arith, new, le), omega (arith, new)) ]
+      from_old w low = grind (arith, nat_tests, common_steps, all_below, either, is.before)
 
       from_new : (w : ℕ) → IsBelow g.vertices y x → (get_or y w 0 ≤ get_or z w 0) × (get_or z w 0 ≤ get_or x w 0)
-      from_new w low =
-          let le : get_or y w 0 ≤ get_or x w 0 = all_below g.vertices y x is.after low w in
-          elim (either w) [ inl old ↦ (omega (arith, old, le), omega (arith, old)) | inr new ↦ (omega (arith, new), omega (arith, new, le)) ]
+      from_new w low = grind (arith, nat_tests, common_steps, all_below, either, is.after)
 
 joined_same : (v w : ℕ) (es fs : List Pair) → has_edge (v, w) es ≡ has_edge (v, w) fs → has_edge (w, v) es ≡ has_edge (w, v) fs → joined v w es ≡ joined v w fs
 joined_same v w es fs a b = ap (λ t. t || has_edge (w, v) es) a ∙ ap (λ t. has_edge (v, w) fs || t) b
 
 joined_more : (v w : ℕ) (es fs : List Pair) → ((e : Pair) → has_edge e es ≡ true → has_edge e fs ≡ true) → joined v w es ≡ true → joined v w fs ≡ true
-joined_more v w es fs more share = elim (cases_Bool (has_edge (v, w) es)) [
-  | inl low ↦ ap (λ t. t || has_edge (w, v) fs) (more (v, w) low)
-  | inr none ↦ ap (λ t. has_edge (v, w) fs || t) (more (w, v) (sym (ap (λ t. t || has_edge (w, v) es) none) ∙ share)) ∙ or_true (has_edge (v, w) fs)
-]
+joined_more v w es fs more share = grind (arith, nat_tests, common_steps, or-true)
 
 module _ (phase : ℕ) (edges : List Pair) (x y labels : List ℕ) (g : GraphShape) (is : IsPhase edges x y g) (are : AreLabels g (is_moved x y) labels) (rs : List ℕ) (below : AllBelow g.vertices rs) where
   module _ (before : GraphShape) (graph : IsGraph before) (same : before.vertices ≡ g.vertices) (new : g ≡ with_edges before edges) (low : IsBelow g.vertices x y) where
@@ -174,17 +125,19 @@ module _ (phase : ℕ) (edges : List Pair) (x y labels : List ℕ) (g : GraphSha
         let way = groups_lead phase true edges x y labels g.vertices x rs is.before in
         let led = added g.vertices before coming graph same (plan_toward phase true edges x y labels g.vertices rs (inside_from_ascending g.vertices 0 0 edges is.ascending)) in
         let union : (e : Pair) → has_edge e g.edges ≡ has_edge e edges || has_edge e before.edges = λ e. ap (λ (t : GraphShape). has_edge e t.edges) new ∙ has_edge-with_edges e before edges in
-        let more : (e : Pair) → has_edge e before.edges ≡ true → has_edge e h.edges ≡ true = λ e has. led.edges e ∙ ap (λ b. any_has e coming || b) has ∙ or_true (any_has e coming) in
+        let more : (e : Pair) → has_edge e before.edges ≡ true → has_edge e h.edges ≡ true = λ e has. led.edges e ∙ ap (λ b. any_has e coming || b) has ∙ or-true (any_has e coming) in
         let fewer : (e : Pair) → has_edge e h.edges ≡ true → has_edge e g.edges ≡ true = λ e has. elim (cases_Bool (any_has e coming)) [
           | inl any ↦ present_in g e edges is.present (any_inside phase true edges x y labels g is are rs below e any)
-          | inr none ↦ union e ∙ ap (λ b. has_edge e edges || b) (sym (ap (λ b. b || has_edge e before.edges) none) ∙ sym (led.edges e) ∙ has) ∙ or_true (has_edge e edges)
+          | inr none ↦ union e ∙ ap (λ b. has_edge e edges || b) (sym (ap (λ b. b || has_edge e before.edges) none) ∙ sym (led.edges e) ∙ has) ∙ or-true (has_edge e edges)
         ] in
         record {
-          lower = graph;
-          upper = is.graph;
-          middle = led.graph;
-          same_lower = same ∙ sym led.vertices;
-          same_upper = sym led.vertices;
+          graphs = record {
+            lower = graph;
+            upper = is.graph;
+            middle = led.graph;
+            same_lower = same ∙ sym led.vertices;
+            same_upper = sym led.vertices;
+          };
           sized = way.sized ∙ sym led.vertices;
           above = λ w. (from_old phase true edges x y labels g is are rs below z way w low).0;
           below = λ w. (from_old phase true edges x y labels g is are rs below z way w low).1;
@@ -233,11 +186,13 @@ module _ (phase : ℕ) (edges : List Pair) (x y labels : List ℕ) (g : GraphSha
           | inr none ↦ led.edges e ∙ ap (λ b. not b && has_edge e g.edges) none ∙ and_second (not (has_edge e edges)) (has_edge e g.edges) (sym (left e) ∙ has)
         ] in
         record {
-          lower = removals_keep_graph g edges is.graph;
-          upper = is.graph;
-          middle = led.graph;
-          same_lower = vertices-without_edges g edges ∙ sym led.vertices;
-          same_upper = sym led.vertices;
+          graphs = record {
+            lower = removals_keep_graph g edges is.graph;
+            upper = is.graph;
+            middle = led.graph;
+            same_lower = vertices-without_edges g edges ∙ sym led.vertices;
+            same_upper = sym led.vertices;
+          };
           sized = way.sized ∙ sym led.vertices;
           above = λ w. (from_new phase false edges x y labels g is are rs below z way w low).0;
           below = λ w. (from_new phase false edges x y labels g is are rs below z way w low).1;
@@ -271,26 +226,30 @@ module _ (phase : ℕ) (edges : List Pair) (x y labels : List ℕ) (g : GraphSha
 -- the first point of a phase is the one before it
 insertion_first : (edges : List Pair) (x y : List ℕ) (g before : GraphShape) → IsPhase edges x y g → IsGraph before → before.vertices ≡ g.vertices → g ≡ with_edges before edges → IsBelow g.vertices x y → IsBetween before g before x y x
 insertion_first edges x y g before is graph same new low = record {
-  lower = graph;
-  upper = is.graph;
-  middle = graph;
-  same_lower = refl;
-  same_upper = sym same;
+  graphs = record {
+    lower = graph;
+    upper = is.graph;
+    middle = graph;
+    same_lower = refl;
+    same_upper = sym same;
+  };
   sized = is.before ∙ sym same;
   above = λ w. omega arith;
   below = λ w. all_below g.vertices x y is.before low w;
   more = λ v w share. share;
-  fewer = λ v w. joined_more v w before.edges g.edges (λ e has. ap (λ (t : GraphShape). has_edge e t.edges) new ∙ has_edge-with_edges e before edges ∙ ap (λ b. has_edge e edges || b) has ∙ or_true (has_edge e edges));
+  fewer = λ v w. joined_more v w before.edges g.edges (λ e has. ap (λ (t : GraphShape). has_edge e t.edges) new ∙ has_edge-with_edges e before edges ∙ ap (λ b. has_edge e edges || b) has ∙ or-true (has_edge e edges));
   each = λ v h. inr (inl (record { level = refl; edges = λ w. refl; levels = λ w share. refl }));
 }
 
 deletion_first : (edges : List Pair) (x y : List ℕ) (g : GraphShape) → IsPhase edges x y g → IsBelow g.vertices y x → IsBetween (without_edges g edges) g g y x x
 deletion_first edges x y g is low = record {
-  lower = removals_keep_graph g edges is.graph;
-  upper = is.graph;
-  middle = is.graph;
-  same_lower = vertices-without_edges g edges;
-  same_upper = refl;
+  graphs = record {
+    lower = removals_keep_graph g edges is.graph;
+    upper = is.graph;
+    middle = is.graph;
+    same_lower = vertices-without_edges g edges;
+    same_upper = refl;
+  };
   sized = is.before;
   above = λ w. all_below g.vertices y x is.after low w;
   below = λ w. omega arith;

@@ -5,8 +5,9 @@ use Rattle.std.proofs.lemmas.Bool.{cases_eq, cases_lt}
 use Rattle.std.proofs.lemmas.Bool.Decides.{nat_tests}
 use Rattle.std.proofs.lemmas.List.{length-set, length-map, map_push, get_or-map, get_or-set_same, get_or-set_other, length_push, get_or_push, get_or_append_left, get_or_default, same_lists}
 use Rattle.std.proofs.lemmas.List.Elements.{All-filter, All-take, filter_more}
+use Rattle.std.proofs.lemmas.Grind.{common_steps}
 use Rattle.kc_graph.specs.Shape.{Pair}
-use Rattle.kc_levels.specs.Moved.{is_moved, move_of, pushed_if, moved_below, moves_between}
+use Rattle.kc_levels.specs.Moved.{is_moved, moves_between}
 use Rattle.kc_levels.specs.declared.moves.Move.{Move}
 use Rattle.kc_history.specs.declared.entries.Entry.{Entry}
 use Rattle.kc_groups.specs.private.Labels.{AreRooted}
@@ -69,29 +70,7 @@ module _ (n : ℕ) (labels places : List ℕ) (k : ℕ) (inside : k < n) where
 
   -- any other that moves takes the place of its label
   pub places_join : (roots : List ℕ) → ArePlaces n labels roots places k → get_or labels k 0 < k → get_or labels (get_or labels k 0) 0 ≡ get_or labels k 0 → ArePlaces n labels roots (set places k (get_or places (get_or labels k 0) 0)) (k + 1)
-  places_join roots p under root =
-      let q = get_or places (get_or labels k 0) 0 in
-      let to = p.at (get_or labels k 0) under (omega (arith, root)) in
-      record {
-        sized = length-set places k q ∙ p.sized;
-        few = omega (arith, p.few);
-        low = λ i lt. omega (arith, p.low i lt);
-        at = λ l lt el. elim (cases_eq l k) [
-          | inl same ↦
-              let place : get_or (set places k q) l 0 ≡ q = ap (λ u. get_or (set places k q) u 0) same ∙ get_or-set_same places k q 0 (omega (arith, p.sized)) in
-              (omega (arith, place, to.0), ap (λ u. get_or roots u 0) place ∙ to.1 ∙ root ∙ ap (λ u. get_or labels u 0) (sym same))
-          | inr ne ↦
-              let old = p.at l (omega arith) el in
-              let place : get_or (set places k q) l 0 ≡ get_or places l 0 = get_or-set_other places k l q 0 ne in
-              (omega (arith, place, old.0), ap (λ u. get_or roots u 0) place ∙ old.1)
-        ];
-        none = λ l lt el. elim (cases_eq l k) [
-          | inl same ↦ absurd (omega (arith, ap (λ u. get_or labels u 0) same))
-          | inr ne ↦ get_or-set_other places k l q 0 ne ∙ p.none l (omega arith) el
-        ];
-        back = λ i lt. let low = p.low i lt in get_or-set_other places k (get_or roots i 0) q 0 (omega arith) ∙ p.back i lt;
-        rest = λ l le lt. get_or-set_other places k l q 0 (omega arith) ∙ p.rest l (omega arith) lt;
-      }
+  places_join roots p under root = grind (arith, nat_tests, common_steps, length-set, get_or-set_same, get_or-set_other, p.at, p.sized, p.few, p.low, p.none, p.back, p.rest)
 
   -- a vertex that stays keeps no place
   pub places_past : (roots : List ℕ) → ArePlaces n labels roots places k → get_or labels k 0 ≡ n → ArePlaces n labels roots places (k + 1)
@@ -121,10 +100,7 @@ module _ (phase : ℕ) (add : Bool) (n : ℕ) (labels : List ℕ) (entries : Lis
   module _ (k : ℕ) (h : k < n) (m : moved k ≡ true) (o : IsOpening phase add n labels entries places k) where
     -- a vertex that is its own label opens an entry
     pub opening_more : get_or labels k 0 ≡ k → IsOpening phase add n labels (entries ++ empty_entry phase add k ∷ []) (set places k (length entries)) (k + 1)
-    opening_more e =
-        let count : length entries ≡ length (labels_below labels k) = ap (λ (es : List Entry). length es) o.0 ∙ length-map (labels_below labels k) (empty_entry phase add) in
-        rw (labels-more labels k e, count)
-        (ap (λ (es : List Entry). es ++ empty_entry phase add k ∷ []) o.0 ∙ sym (map_push (empty_entry phase add) (labels_below labels k) k), places_more n labels places k h (labels_below labels k) o.1 e)
+    opening_more e = grind (arith, nat_tests, common_steps, length-map, labels-more, map_push, places_more, o.0, o.1)
 
     -- any other that moves takes the place of its label
     pub opening_join : get_or labels k 0 ≢ k → IsOpening phase add n labels entries (set places k (get_or places (get_or labels k 0) 0)) (k + 1)
@@ -153,17 +129,7 @@ moves_first places old none = dealt_first (with_moves places []) old (λ p d lt.
 
 -- the next move comes into the entry at the place of its vertex
 pub deal_move : (places : List ℕ) (ms : List Move) (i : ℕ) (d : Move) (old es : List Entry) (t : Entry) → i < length ms → AreDealt (with_moves places (take i ms)) old es → get_or places (get_or ms i d).vertex 0 < length old → t ≡ get_or es (get_or places (get_or ms i d).vertex 0) t → AreDealt (with_moves places (take (i + 1) ms)) old (set es (get_or places (get_or ms i d).vertex 0) (record t { moves = t.moves ++ get_or ms i d ∷ [] }))
-deal_move places ms i d old es t h a inside read =
-    let m = get_or ms i d in
-    let q = get_or places (get_or ms i d).vertex 0 in
-    dealt_at (with_moves places (take i ms)) (with_moves places (take (i + 1) ms)) old es q (record t { moves = t.moves ++ m ∷ [] }) a inside
-    (λ u.
-    let was : t ≡ with_moves places (take i ms) q (get_or old q u) = read ∙ get_or_default es q t u (omega (arith, a.sized, inside)) ∙ a.each q u inside in
-    ap (λ (v : Entry). record v { moves = v.moves ++ m ∷ [] }) was ∙ ap (λ ns. record (get_or old q u) { moves = ns }) (sym (filtered q true (grind (arith, nat_tests)))))
-    (λ p lt ne u. ap (λ ns. record u { moves = ns }) (filtered p false (grind (arith, nat_tests, ne)) ∙ append-nil (filter (λ (n : Move). eqb (get_or places n.vertex 0) p) (take i ms))))
-  where
-    filtered : (p : ℕ) (b : Bool) → eqb (get_or places (get_or ms i d).vertex 0) p ≡ b → filter (λ (n : Move). eqb (get_or places n.vertex 0) p) (take (i + 1) ms) ≡ filter (λ (n : Move). eqb (get_or places n.vertex 0) p) (take i ms) ++ cond b (get_or ms i d ∷ []) []
-    filtered p b e = filter_more (λ (n : Move). eqb (get_or places n.vertex 0) p) ms i d h ∙ ap (λ c. filter (λ (n : Move). eqb (get_or places n.vertex 0) p) (take i ms) ++ cond c (get_or ms i d ∷ []) []) e
+deal_move places ms i d old es t h a inside read = grind (arith, nat_tests, common_steps, dealt_at, get_or_default, append-nil, filter_more, a.sized, a.each)
 
 -- the moves that were dealt are of vertices below n, as all moves are
 pub dealt_below : (n : ℕ) (places : List ℕ) (ms : List Move) (i : ℕ) (old es : List Entry) → All (λ (m : Move). m.vertex < n) ms → AreDealt (with_moves places (take i ms)) old es → AreMovesBelow n es
@@ -174,25 +140,7 @@ dealt_below n places ms i old es below a p d h =
 -- the moves between two lists of levels whose vertices have the place p
 pub moves_placed : (places x y : List ℕ) (p k : ℕ) → ((v : ℕ) → v < k → is_moved x y v ≡ false → eqb (get_or places v 0) p ≡ false) → filter (λ (m : Move). eqb (get_or places m.vertex 0) p) (moves_between k x y) ≡ moves_below places x y p k
 moves_placed places x y p zero none = refl
-moves_placed places x y p (suc k) none = go (is_moved x y k) refl (moves_placed places x y p k (λ v h. none v (omega arith)))
-  where
-    pushed : (b : Bool) → eqb (get_or places k 0) p ≡ b → (ms : List Move) → filter (λ (m : Move). eqb (get_or places m.vertex 0) p) (ms ++ move_of x y k ∷ []) ≡ pushed_if b (move_of x y k) (filter (λ (m : Move). eqb (get_or places m.vertex 0) p) ms)
-    pushed true e [] = rw e refl
-    pushed false e [] = rw e refl
-    pushed b e (m ∷ ms) = step (eqb (get_or places m.vertex 0) p) b (pushed b e ms)
-      where
-        step : (c b : Bool) → filter (λ (m : Move). eqb (get_or places m.vertex 0) p) (ms ++ move_of x y k ∷ []) ≡ pushed_if b (move_of x y k) (filter (λ (m : Move). eqb (get_or places m.vertex 0) p) ms) → cond c (m ∷ filter (λ (m : Move). eqb (get_or places m.vertex 0) p) (ms ++ move_of x y k ∷ [])) (filter (λ (m : Move). eqb (get_or places m.vertex 0) p) (ms ++ move_of x y k ∷ [])) ≡ pushed_if b (move_of x y k) (cond c (m ∷ filter (λ (m : Move). eqb (get_or places m.vertex 0) p) ms) (filter (λ (m : Move). eqb (get_or places m.vertex 0) p) ms))
-        step true true same = ap (λ ns. m ∷ ns) same
-        step true false same = ap (λ ns. m ∷ ns) same
-        step false b same = same
-
-    go : (b : Bool) → is_moved x y k ≡ b → filter (λ (m : Move). eqb (get_or places m.vertex 0) p) (moves_between k x y) ≡ moves_below places x y p k → filter (λ (m : Move). eqb (get_or places m.vertex 0) p) (map (move_of x y) (pushed_if b k (moved_below (is_moved x y) k))) ≡ pushed_if (eqb (get_or places k 0) p) (move_of x y k) (moves_below places x y p k)
-    go true e same =
-        ap (filter (λ (m : Move). eqb (get_or places m.vertex 0) p)) (map_push (move_of x y) (moved_below (is_moved x y) k) k)
-        ∙ pushed (eqb (get_or places k 0) p) refl (moves_between k x y) ∙ ap (pushed_if (eqb (get_or places k 0) p) (move_of x y k)) same
-    go false e same = same ∙ sym (ap (λ b. pushed_if b (move_of x y k) (moves_below places x y p k)) (none k (omega arith) e))
-
--- From places to labels
+moves_placed places x y p (suc k) none = grind (arith, nat_tests, common_steps, moves_placed places x y p k (λ v h. none v (omega arith)), map_push)
 
 filter_same : {A : Type 0} (p q : A → Bool) (xs : List A) → All (λ x. p x ≡ q x) xs → filter p xs ≡ filter q xs
 filter_same p q [] same = refl
@@ -203,10 +151,7 @@ filter_same p q (x ∷ xs) same = go (p x) (q x) (same 0 x (omega arith)) (filte
 
 moves_same : (labels others x y : List ℕ) (l o k : ℕ) → ((v : ℕ) → v < k → eqb (get_or labels v 0) l ≡ eqb (get_or others v 0) o) → moves_below labels x y l k ≡ moves_below others x y o k
 moves_same labels others x y l o zero same = refl
-moves_same labels others x y l o (suc k) same = go (eqb (get_or labels k 0) l) (eqb (get_or others k 0) o) (same k (omega arith)) (moves_same labels others x y l o k (λ v h. same v (omega arith)))
-  where
-    go : (a b : Bool) → a ≡ b → moves_below labels x y l k ≡ moves_below others x y o k → pushed_if a (move_of x y k) (moves_below labels x y l k) ≡ pushed_if b (move_of x y k) (moves_below others x y o k)
-    go a b e rest = rw (e, rest) refl
+moves_same labels others x y l o (suc k) same = grind (arith, nat_tests, common_steps, moves_same labels others x y l o k (λ v h. same v (omega arith)))
 
 abbrev entry_with : ℕ → Bool → ℕ → List Move → List Pair → Entry
 entry_with phase add l ms ps = record { phase = phase; label = Some l; add = add; moves = ms; edges = ps }
@@ -215,26 +160,12 @@ same_entry : (phase : ℕ) (add : Bool) (l : ℕ) (ms ns : List Move) (ps qs : L
 same_entry phase add l ms ns ps qs moves edges = ap (λ us. entry_with phase add l us ps) moves ∙ ap (λ us. entry_with phase add l ns us) edges
 
 same_test : (a l b o : ℕ) → (a ≡ l → b ≡ o) → (b ≡ o → a ≡ l) → eqb a l ≡ eqb b o
-same_test a l b o to back = elim (cases_eq a l) [
-  | inl e ↦ grind (arith, nat_tests, e, to e)
-  | inr ne ↦ let other : b ≢ o = λ e. ne (back e) in grind (arith, nat_tests, ne, other)
-]
+same_test a l b o to back = grind (arith, nat_tests, common_steps)
 
 module _ (n : ℕ) (labels roots places : List ℕ) (p : ArePlaces n labels roots places n) where
   -- a vertex has place i exactly where its label stands there
   same_place : (i v : ℕ) → i < length roots → v < n → eqb (get_or places v 0) i ≡ eqb (get_or labels v 0) (get_or roots i 0)
-  same_place i v inside h = elim (cases_lt (get_or labels v 0) n) [
-    | inl low ↦
-        let at = p.at v h low in
-        same_test (get_or places v 0) i (get_or labels v 0) (get_or roots i 0)
-        (λ e. sym at.1 ∙ ap (λ u. get_or roots u 0) e)
-        (λ e. sym (p.back (get_or places v 0) at.0) ∙ ap (λ u. get_or places u 0) (at.1 ∙ e) ∙ p.back i inside)
-    | inr high ↦
-        let none = p.none v h high in
-        same_test (get_or places v 0) i (get_or labels v 0) (get_or roots i 0)
-        (λ e. absurd (omega (arith, p.few)))
-        (λ e. absurd (omega (arith, p.low i inside)))
-  ]
+  same_place i v inside h = grind (arith, nat_tests, common_steps, same_test, p.at, p.back, p.none, p.few, p.low)
 
   pub groups_are : (phase : ℕ) (add : Bool) (x y : List ℕ) (edges : List Pair) (opened moved dealt : List Entry) → All (λ (e : Pair). (e.0 < n) × (e.1 < n)) edges → opened ≡ map (empty_entry phase add) roots → (ms : List Move) → ((i : ℕ) → i < length roots → filter (λ (m : Move). eqb (get_or places m.vertex 0) i) ms ≡ moves_below places x y i n) → AreDealt (with_moves places ms) opened moved → AreDealt (with_edges places edges) moved dealt → dealt ≡ map (group_entry phase add edges x y labels n) roots
   groups_are phase add x y edges opened moved dealt inside is ms below m e =
@@ -258,17 +189,10 @@ module _ (n : ℕ) (labels roots places : List ℕ) (p : ArePlaces n labels root
 
   module _ (moved : ℕ → Bool) (r : AreRooted n moved labels) where
     unplaced : (v : ℕ) → v < n → eqb (get_or places v 0) n ≡ not (moved v)
-    unplaced v h = go (moved v) refl
-      where
-        go : (b : Bool) → moved v ≡ b → eqb (get_or places v 0) n ≡ not b
-        go true m = let low : get_or places v 0 < n = omega (arith, (p.at v h (r.root v h m).0).0, p.few) in grind (arith, nat_tests, low)
-        go false m = let none : get_or places v 0 ≡ n = p.none v h (omega (arith, r.none v h m)) in grind (arith, nat_tests, none)
+    unplaced v h = grind (arith, nat_tests, common_steps, p.at, r.root, p.few, p.none, r.none)
 
     pub quiet_are : (edges : List Pair) → All (λ (e : Pair). (e.0 < n) × (e.1 < n)) edges → filter (is_unplaced n places) edges ≡ filter (λ (e : Pair). not (moved e.0) && not (moved e.1)) edges
-    quiet_are edges inside = filter_same (is_unplaced n places) (λ (e : Pair). not (moved e.0) && not (moved e.1)) edges (λ k t at. both (get_or edges k t) (unplaced (get_or edges k t).0 (inside k t at).0) (unplaced (get_or edges k t).1 (inside k t at).1))
-      where
-        both : (e : Pair) → eqb (get_or places e.0 0) n ≡ not (moved e.0) → eqb (get_or places e.1 0) n ≡ not (moved e.1) → is_unplaced n places e ≡ not (moved e.0) && not (moved e.1)
-        both e first second = rw (first, second) refl
+    quiet_are edges inside = grind (arith, nat_tests, common_steps, filter_same, unplaced)
 
     -- a vertex that stays has no place, and one that moves has one
     pub stays : (v : ℕ) → v < n → moved v ≡ false → get_or places v 0 ≡ n

@@ -4,6 +4,7 @@ use Rattle.std.specs.Prelude.{count_by}
 use Rattle.std.proofs.lemmas.Bool.{cases_eq, cases_lt, cases_Bool}
 use Rattle.std.proofs.lemmas.Bool.Decides.{nat_tests}
 use Rattle.std.proofs.lemmas.List.Elements.{All-head, All-tail}
+use Rattle.std.proofs.lemmas.Grind.{common_steps}
 use Rattle.kc_graph.specs.Numbers.{RisesFrom, AllBelow, has_number}
 use Rattle.kc_graph.specs.Shape.{GraphShape, Pair, has_edge, same_edge}
 use Rattle.kc_graph.specs.Changes.{AllPresent}
@@ -27,8 +28,7 @@ count_none p of n (r ∷ rs) below f = omega (arith, counted p false (of r) (map
 
 count_none_above : (p : Entry → Bool) (of : ℕ → Entry) (n l low : ℕ) (rs : List ℕ) → RisesFrom low rs → l < low → AllBelow n rs → ((r : ℕ) → r < n → r ≢ l → p (of r) ≡ false) → count_by p (map of rs) ≡ 0
 count_none_above p of n l low [] up h below f = refl
-count_none_above p of n l low (r ∷ rs) up h below f =
-    omega (arith, counted p false (of r) (map of rs) (f r below.0 (omega (arith, up.0))), count_none_above p of n l (suc r) rs up.1 (omega (arith, up.0)) below.1 f)
+count_none_above p of n l low (r ∷ rs) up h below f = grind (arith, nat_tests, common_steps, count_none_above p of n l (suc r) rs up.1 (omega (arith, up.0)) below.1 f, counted, below.0, up.0, up.1, below.1)
 
 count_one : (p : Entry → Bool) (of : ℕ → Entry) (n l low : ℕ) (rs : List ℕ) → RisesFrom low rs → AllBelow n rs → has_number l rs ≡ true → p (of l) ≡ true → ((r : ℕ) → r < n → r ≢ l → p (of r) ≡ false) → count_by p (map of rs) ≡ 1
 count_one p of n l low [] up below has yes_ f = grind (arith, nat_tests, has)

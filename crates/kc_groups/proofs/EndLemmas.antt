@@ -1,6 +1,7 @@
 -- The labels of the ends of an edge.
 use Rattle.std.proofs.Common.{ℕ, ◌≤◌, ◌<◌, ◌≡◌, ◌≢◌, ◌⊎◌, inl, inr, Bool, true, false, cond, ◌&&◌, not, List, get_or, refl, ◌∙◌, arith}
 use Rattle.std.proofs.lemmas.Bool.Decides.{nat_tests}
+use Rattle.std.proofs.lemmas.Grind.{common_steps}
 use Rattle.kc_graph.specs.Shape.{GraphShape, Pair, IsGraph, has_edge}
 use Rattle.kc_graph.proofs.lemmas.Edges.{edge_inside, joined_in_order}
 use Rattle.kc_levels.specs.Moved.{is_moved}
@@ -48,12 +49,7 @@ label_root n x y labels e r j = go (is_moved x y e.0) (is_moved x y e.1) refl re
     go false false ea eb low = absurd (omega (arith, r.none e.1 j.inside eb))
 
 pub label_none : (n : ℕ) (x y labels : List ℕ) (e : Pair) → AreRooted n (is_moved x y) labels → IsJoined n (is_moved x y) labels e → n ≤ edge_label x y labels e → is_quiet x y e ≡ true
-label_none n x y labels e r j = go (is_moved x y e.0) (is_moved x y e.1) refl refl
-  where
-    go : (a b : Bool) → is_moved x y e.0 ≡ a → is_moved x y e.1 ≡ b → n ≤ cond a (get_or labels e.0 0) (get_or labels e.1 0) → not a && not b ≡ true
-    go true b ea eb high = absurd (omega (arith, (r.root e.0 (omega (arith, j.order, j.inside)) ea).0))
-    go false true ea eb high = absurd (omega (arith, (r.root e.1 j.inside eb).0))
-    go false false ea eb high = refl
+label_none n x y labels e r j = grind (arith, nat_tests, common_steps, r.root, j.order, j.inside)
 
 pub edge_joined : (g : GraphShape) (moved : ℕ → Bool) (labels : List ℕ) (e : Pair) → IsGraph g → AreJoined g moved labels → has_edge e g.edges ≡ true → IsJoined g.vertices moved labels e
 edge_joined g moved labels e graph joined h =

@@ -1,8 +1,9 @@
 -- Forests over the places of a list: a place that points further up, and trees that come together.
 use Rattle.std.proofs.Common.{ℕ, ◌≤◌, ◌<◌, ◌≡◌, ◌≢◌, ◌⊎◌, inl, inr, Bool, true, false, ◌&&◌, ◌||◌, cond, eqb, max, min, List, [], ◌∷◌, length, get_or, set, map, refl, ap, sym, subst, ◌∙◌, arith}
-use Rattle.std.proofs.lemmas.Bool.{cases_eq, cases_lt, cases_Bool, true≢false}
+use Rattle.std.proofs.lemmas.Bool.{cases_Bool, cases_eq, cases_lt, or_left}
 use Rattle.std.proofs.lemmas.Bool.Decides.{nat_tests}
 use Rattle.std.proofs.lemmas.List.{length-set, length-map, get_or-map, get_or-set_same, get_or-set_other}
+use Rattle.std.proofs.lemmas.Grind.{common_steps}
 use Rattle.kc_groups.specs.private.Forest.{IsForest, merged, AreGathered}
 
 -- a place that isn't a root points to where its parent does
@@ -46,10 +47,6 @@ forest_up parents roots i f h =
 
     other : (j : ℕ) → j ≢ i → get_or (set parents i (get_or parents (get_or parents i 0) 0)) j 0 ≡ get_or parents j 0
     other j ne = get_or-set_other parents i j (get_or parents (get_or parents i 0) 0) 0 ne
-
--- the root of a root is itself
-pub root_of_root : (parents roots : List ℕ) (i : ℕ) → IsForest parents roots → i < length parents → get_or roots (get_or roots i 0) 0 ≡ get_or roots i 0
-root_of_root parents roots i f h = f.own (get_or roots i 0) (omega (arith, f.low i h, h)) (f.root i h)
 
 -- the new root of a tree whose root was l, where the tree of the root s comes under r
 abbrev pub under : ℕ → ℕ → ℕ → ℕ
@@ -149,26 +146,6 @@ forest_same parents roots i j f e = subst (IsForest parents) (sym (unmoved roots
     unmoved [] = refl
     unmoved (r ∷ rs) = ap (λ k. k ∷ map (λ r. cond (eqb r (max (get_or roots i 0) (get_or roots j 0))) (min (get_or roots i 0) (get_or roots j 0)) r) rs) (stays r) ∙ ap (λ l. r ∷ l) (unmoved rs)
 
--- the forest in which each place is a tree of its own
-pub lone_forest : (parents : List ℕ) → ((i : ℕ) → i < length parents → get_or parents i 0 ≡ i) → IsForest parents parents
-lone_forest parents own = record {
-  sized = refl;
-  up = λ i h. omega (arith, own i h);
-  same = λ i h. ap (λ u. get_or parents u 0) (own i h);
-  own = λ i h e. e;
-  low = λ i h. omega (arith, own i h);
-  root = λ i h. ap (λ u. get_or parents u 0) (own i h);
-}
-
-pub lone_gathered : (m : ℕ) (parents : List ℕ) → length parents ≡ m → ((i : ℕ) → i < length parents → get_or parents i 0 ≡ i) → AreGathered m (λ i j. false) parents
-lone_gathered m parents sized own = record {
-  roots = parents;
-  forest = lone_forest parents own;
-  sized = sized;
-  joined = λ i j hi hj e. absurd (true≢false (sym e));
-  sound = λ label same i h. ap label (own i (omega (arith, sized)));
-}
-
 module _ (m : ℕ) (before after : ℕ → ℕ → Bool) (parents : List ℕ) (g : AreGathered m before parents) where
   -- no link is new
   pub gathered_same : ((i j : ℕ) → i < m → j < m → after i j ≡ before i j) → AreGathered m after parents
@@ -192,13 +169,7 @@ module _ (m : ℕ) (before after : ℕ → ℕ → Bool) (parents : List ℕ) (g
     read i h = get_or-map (under s r) g.roots i 0 0 (omega (arith, g.forest.sized, g.sized, h))
 
     both : (under s r (get_or g.roots a 0) ≡ r) × (under s r (get_or g.roots b 0) ≡ r)
-    both = elim (cases_lt (get_or g.roots a 0) (get_or g.roots b 0)) [
-      | inl lt ↦ (under_other s r (get_or g.roots a 0) (omega (arith, lt)) ∙ omega (arith, lt), under_same s r (get_or g.roots b 0) (omega (arith, lt)))
-      | inr ge ↦ elim (cases_eq (get_or g.roots a 0) (get_or g.roots b 0)) [
-        | inl e ↦ (under_same s r (get_or g.roots a 0) (omega (arith, e)), under_same s r (get_or g.roots b 0) (omega (arith, e)))
-        | inr ne ↦ (under_same s r (get_or g.roots a 0) (omega (arith, ge)), under_other s r (get_or g.roots b 0) (omega (arith, ge, ne)) ∙ omega (arith, ge))
-      ]
-    ]
+    both = grind (arith, nat_tests, common_steps, under_other, under_same, g.roots)
 
     ends : (label : ℕ → ℕ) → label (get_or g.roots a 0) ≡ label (get_or g.roots b 0) → label r ≡ label s
     ends label e = elim (cases_lt (get_or g.roots a 0) (get_or g.roots b 0)) [
@@ -235,15 +206,12 @@ module _ (m : ℕ) (before after : ℕ → ℕ → Bool) (parents : List ℕ) (g
     gathered_one new ha hb one long f =
         gathered_more new ha hb
         (one a b ha hb ∙ yes (before a b) (eqb a a) (eqb b b) (grind (arith, nat_tests)) (grind (arith, nat_tests)))
-        (λ i j hi hj e. one i j hi hj ∙ still (before i j) (eqb i a && eqb j b) e)
+        (λ i j hi hj e. one i j hi hj ∙ or_left (before i j) (eqb i a && eqb j b) e)
         (λ i j hi hj e. only i j (sym (one i j hi hj) ∙ e))
         long f
       where
         yes : (x y z : Bool) → y ≡ true → z ≡ true → (x || (y && z)) ≡ true
         yes x y z e f = grind (arith, nat_tests, e, f)
-
-        still : (x y : Bool) → x ≡ true → (x || y) ≡ true
-        still x y e = grind (arith, nat_tests, e)
 
         later : (x y : Bool) → x ≡ false → (x || y) ≡ true → y ≡ true
         later x y e f = grind (arith, nat_tests, e, f)

@@ -3,6 +3,7 @@ use Rattle.std.proofs.Common.{ℕ, ◌+◌, ◌≤◌, ◌<◌, ◌≡◌, Bool,
 use Rattle.std.proofs.Math.Seq.{take-length}
 use Rattle.std.proofs.lemmas.Bool.Decides.{nat_tests}
 use Rattle.std.proofs.lemmas.List.Elements.{All-push}
+use Rattle.std.proofs.lemmas.Grind.{common_steps}
 use Rattle.kc_graph.specs.Shape.{GraphShape, Pair, neighbours_of, has_edge}
 use Rattle.kc_groups.specs.private.Forest.{IsForest, merged, AreGathered}
 use Rattle.kc_groups.specs.private.Gathering.{AreLinks, AreNumbered, in_row}
@@ -58,10 +59,7 @@ with_links before links k i j = before i j || has_edge (j, i) (take k links)
 
 module _ (m : ℕ) (before : ℕ → ℕ → Bool) (links : List Pair) (parents : List ℕ) where
   pub joined_first : AreGathered m before parents → AreGathered m (with_links before links 0) parents
-  joined_first a = gathered_same m before (with_links before links 0) parents a (λ i j hi hj. none (before i j))
-    where
-      none : (b : Bool) → (b || false) ≡ b
-      none b = grind (arith, nat_tests)
+  joined_first a = grind (arith, nat_tests, common_steps, gathered_same)
 
   pub joined_last : (linked : ℕ → ℕ → Bool) (k : ℕ) → k ≡ length links → AreLinks m linked links → AreGathered m (with_links before links k) parents → AreGathered m (λ i j. before i j || linked i j) parents
   joined_last linked k whole l a = gathered_same m (with_links before links k) (λ i j. before i j || linked i j) parents a (λ i j hi hj. ap (λ b. before i j || b) (sym (l.same i j hi hj) ∙ ap (λ es. has_edge (j, i) es) (sym (ap (λ u. take u links) whole ∙ take-length links))))

@@ -1,8 +1,8 @@
 -- The trees of a forest over the moves are the groups, and the vertex of the root is the label.
 use Rattle.std.proofs.Common.{ℕ, suc, zero, ◌≤◌, ◌<◌, ◌≡◌, inl, inr, Bool, true, false, ◌&&◌, ◌||◌, ltb, List, length, get_or, refl, ap, sym, ◌∙◌, arith, subst}
-use Rattle.std.proofs.lemmas.Bool.{cases_eq, cases_lt, cases_Bool}
+use Rattle.std.proofs.lemmas.Bool.{and_from, cases_Bool, cases_eq, cases_lt, or_left, or_right}
 use Rattle.std.proofs.lemmas.Bool.Decides.{nat_tests}
-use Rattle.std.proofs.lemmas.Grind.{same_number_lists}
+use Rattle.std.proofs.lemmas.Grind.{same_number_lists, common_steps}
 use Rattle.kc_graph.specs.Numbers.{RisesFrom, AllBelow, has_number}
 use Rattle.kc_graph.specs.Shape.{GraphShape, Pair, IsGraph, joined, has_edge, with_edges}
 use Rattle.kc_graph.proofs.lemmas.Numbers.{all_from_below, has_number_at, has_number_index, rises_in_order}
@@ -25,20 +25,11 @@ module _ (g : GraphShape) (edges : List Pair) (vs : List ℕ) where
 
   -- whether two movers are linked in the rows
   near_is : (i j : ℕ) → i < length vs → in_rows g vs (length vs) i j ≡ (ltb j i && joined (get_or vs i 0) (get_or vs j 0) g.edges)
-  near_is i j h = ap (λ b. ltb i (length vs) && (ltb j i && b)) (has_number-neighbours_of (get_or vs i 0) (get_or vs j 0) g.edges) ∙ first (ltb i (length vs)) (ltb j i && joined (get_or vs i 0) (get_or vs j 0) g.edges) (grind (arith, nat_tests, h))
-    where
-      first : (a b : Bool) → a ≡ true → (a && b) ≡ b
-      first a b e = grind (arith, nat_tests, e)
+  near_is i j h = grind (arith, nat_tests, common_steps, has_number-neighbours_of)
 
   -- a link is an edge
   link_joined : (i j : ℕ) → i < length vs → all_links g edges vs (length vs) i j ≡ true → joined (get_or vs i 0) (get_or vs j 0) (with_edges g edges).edges ≡ true
-  link_joined i j h e = joined_all (get_or vs i 0) (get_or vs j 0) ∙ some (ltb j i) (has_edge (get_or vs i 0, get_or vs j 0) g.edges) (has_edge (get_or vs j 0, get_or vs i 0) g.edges) (has_edge (get_or vs i 0, get_or vs j 0) edges) (has_edge (get_or vs j 0, get_or vs i 0) edges) (sym (ap (λ b. b || in_edges edges vs i j) (near_is i j h)) ∙ e)
-    where
-      some : (a b c d e : Bool) → ((a && (b || c)) || d) ≡ true → ((d || b) || (e || c)) ≡ true
-      some a b c true e t = refl
-      some a true c false e t = refl
-      some a false true false e t = grind (arith, nat_tests)
-      some a false false false e t = grind (arith, nat_tests, t)
+  link_joined i j h e = grind (arith, nat_tests, common_steps, joined_all, near_is)
 
   module _ (parents : List ℕ) (a : AreGathered (length vs) (all_links g edges vs (length vs)) parents) where
     -- movers that share an edge have one root
@@ -46,19 +37,10 @@ module _ (g : GraphShape) (edges : List Pair) (vs : List ℕ) where
     one_root i j hi hj e = which (has_edge (get_or vs i 0, get_or vs j 0) edges) refl (has_edge (get_or vs j 0, get_or vs i 0) edges) refl (sym (joined_all (get_or vs i 0) (get_or vs j 0)) ∙ e)
       where
         by_edge : (k l : ℕ) → k < length vs → l < length vs → in_edges edges vs k l ≡ true → get_or a.roots k 0 ≡ get_or a.roots l 0
-        by_edge k l hk hl e = a.joined k l hk hl (second (in_rows g vs (length vs) k l) (in_edges edges vs k l) e)
-          where
-            second : (b c : Bool) → c ≡ true → (b || c) ≡ true
-            second b c e = grind (arith, nat_tests, e)
+        by_edge k l hk hl e = a.joined k l hk hl (or_right (in_rows g vs (length vs) k l) (in_edges edges vs k l) e)
 
         by_row : (k l : ℕ) → k < length vs → l < length vs → l < k → joined (get_or vs k 0) (get_or vs l 0) g.edges ≡ true → get_or a.roots k 0 ≡ get_or a.roots l 0
-        by_row k l hk hl lt e = a.joined k l hk hl (first (in_rows g vs (length vs) k l) (in_edges edges vs k l) (near_is k l hk ∙ both (ltb l k) (joined (get_or vs k 0) (get_or vs l 0) g.edges) (grind (arith, nat_tests, lt)) e))
-          where
-            first : (b c : Bool) → b ≡ true → (b || c) ≡ true
-            first b c e = grind (arith, nat_tests, e)
-
-            both : (b c : Bool) → b ≡ true → c ≡ true → (b && c) ≡ true
-            both b c e f = grind (arith, nat_tests, e, f)
+        by_row k l hk hl lt e = a.joined k l hk hl (or_left (in_rows g vs (length vs) k l) (in_edges edges vs k l) (near_is k l hk ∙ and_from (ltb l k) (joined (get_or vs k 0) (get_or vs l 0) g.edges) (grind (arith, nat_tests, lt)) e))
 
         rows : joined (get_or vs i 0) (get_or vs j 0) g.edges ≡ true → get_or a.roots i 0 ≡ get_or a.roots j 0
         rows e = elim (cases_eq i j) [
@@ -75,12 +57,6 @@ module _ (g : GraphShape) (edges : List Pair) (vs : List ℕ) where
         which false eb false ec t = rows t
 
     module _ (rises : RisesFrom 0 vs) (below : AllBelow g.vertices vs) (graph : IsGraph (with_edges g edges)) where
-      abbrev all : GraphShape
-      all = with_edges g edges
-
-      abbrev moved : ℕ → Bool
-      moved v = has_number v vs
-
       inside : (i : ℕ) → i < length vs → get_or vs i 0 < (with_edges g edges).vertices
       inside i h = rw (vertices-with_edges g edges) (all_from_below g.vertices vs below i 0 h)
 

@@ -4,7 +4,7 @@ use Rattle.std.specs.Prelude.{count_by}
 use Rattle.std.specs.List.{All}
 use Rattle.std.proofs.lemmas.Bool.{cases_eq, cases_Bool, true≢false}
 use Rattle.std.proofs.lemmas.Bool.Decides.{nat_tests}
-use Rattle.std.proofs.lemmas.Grind.{same_number_lists}
+use Rattle.std.proofs.lemmas.Grind.{same_number_lists, common_steps}
 use Rattle.std.proofs.lemmas.List.{get_or-set_other, length-set, get_or-map, length-map}
 use Rattle.std.proofs.lemmas.List.Elements.{All-map, All-head, All-tail, All-filter}
 use Rattle.kc_graph.specs.Numbers.{has_number}
@@ -106,15 +106,7 @@ any_has e (t ∷ ts) = has_edge e t.edges || any_has e ts
 
 any_counted : (e : Pair) (ts : List Entry) → ((any_has e ts ≡ true) × (1 ≤ count_by (λ (t : Entry). has_edge e t.edges) ts)) ⊎ ((any_has e ts ≡ false) × (count_by (λ (t : Entry). has_edge e t.edges) ts ≡ 0))
 any_counted e [] = inr (refl, refl)
-any_counted e (t ∷ ts) = elim (cases_Bool (has_edge e t.edges)) [
-  | inl has ↦ inl (ap (λ (b : Bool). b || any_has e ts) has, omega (arith, counted (λ (u : Entry). has_edge e u.edges) true t ts has))
-  | inr none ↦
-      let count = counted (λ (u : Entry). has_edge e u.edges) false t ts none in
-      elim (any_counted e ts) [
-        | inl some ↦ inl (ap (λ (b : Bool). b || any_has e ts) none ∙ some.0, omega (arith, count, some.1))
-        | inr no_ ↦ inr (ap (λ (b : Bool). b || any_has e ts) none ∙ no_.0, omega (arith, count, no_.1))
-      ]
-]
+any_counted e (t ∷ ts) = grind (arith, nat_tests, common_steps, any_counted e ts, counted)
 
 any_is : (b : Bool) (e : Pair) (ts : List Entry) → count_by (λ (t : Entry). has_edge e t.edges) ts ≡ cond b 1 0 → any_has e ts ≡ b
 any_is true e ts count = elim (any_counted e ts) [ inl some ↦ some.0 | inr no_ ↦ absurd (omega (arith, count, no_.1)) ]
@@ -152,21 +144,7 @@ added n h (t ∷ ts) graph same all =
 
 pub removed : (n : ℕ) (h : GraphShape) (ts : List Entry) → IsGraph h → h.vertices ≡ n → AreToward n false ts → IsLed n (graph_after h ts) (λ e. not (any_has e ts) && has_edge e h.edges)
 removed n h [] graph same all = record { graph = graph; vertices = same; edges = λ e. refl }
-removed n h (t ∷ ts) graph same all =
-    let next : with_entry h t ≡ without_edges h t.edges = ap (λ (b : Bool). cond b (with_edges h t.edges) (without_edges h t.edges)) all.0 in
-    let rest = removed n (without_edges h t.edges) ts (removals_keep_graph h t.edges graph) (vertices-without_edges h t.edges ∙ same) all.2 in
-    rw next
-    (record {
-      graph = rest.graph;
-      vertices = rest.vertices;
-      edges = λ e. rest.edges e ∙ ap (λ (b : Bool). not (any_has e ts) && b) (has_edge-without_edges e h t.edges) ∙ turned (any_has e ts) (has_edge e t.edges) (has_edge e h.edges);
-    })
-  where
-    turned : (a b c : Bool) → not a && (not b && c) ≡ not (b || a) && c
-    turned true true c = refl
-    turned true false c = refl
-    turned false true c = refl
-    turned false false c = refl
+removed n h (t ∷ ts) graph same all = grind (arith, nat_tests, common_steps, removed n (without_edges h t.edges) ts (removals_keep_graph h t.edges graph) (vertices-without_edges h t.edges ∙ same) all.2, removals_keep_graph, vertices-without_edges, has_edge-without_edges, t.edges, all.0, all.2)
 
 groups_toward : (phase : ℕ) (add : Bool) (edges : List Pair) (x y labels : List ℕ) (n : ℕ) (rs : List ℕ) → All (λ (e : Pair). (e.0 < e.1) × (e.1 < n)) edges → AreToward n add (map (group_entry phase add edges x y labels n) rs)
 groups_toward phase add edges x y labels n [] inside = tt

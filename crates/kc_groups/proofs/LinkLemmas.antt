@@ -1,8 +1,9 @@
 -- What each link that is followed adds to the forest.
 use Rattle.std.proofs.Common.{ℕ, ◌+◌, ◌≤◌, ◌<◌, ◌≡◌, ◌≢◌, ◌⊎◌, inl, inr, Bool, true, false, cond, ◌&&◌, ◌||◌, eqb, ltb, List, [], ◌∷◌, ◌++◌, length, get_or, take, refl, ap, sym, ◌∙◌, arith, add-one}
 use Rattle.std.proofs.Math.Seq.{take-suc, take-length}
-use Rattle.std.proofs.lemmas.Bool.{cases_eq, cases_lt, cases_Bool}
+use Rattle.std.proofs.lemmas.Bool.{cases_Bool, or_left}
 use Rattle.std.proofs.lemmas.Bool.Decides.{nat_tests}
+use Rattle.std.proofs.lemmas.Grind.{common_steps}
 use Rattle.kc_graph.specs.Numbers.{has_number}
 use Rattle.kc_graph.specs.Shape.{GraphShape, Pair, neighbours_of, has_edge, same_edge}
 use Rattle.kc_graph.proofs.lemmas.Numbers.{has_number-push, has_number_index}
@@ -42,48 +43,19 @@ place_below vs places place w = cond (ltb w (get_or vs place 0)) (get_or places 
 module _ (before : ℕ → ℕ → Bool) (vs : List ℕ) (place : ℕ) (items : List ℕ) where
   -- no neighbour is looked at
   pub none_so_far : (i j : ℕ) → so_far before vs place items 0 i j ≡ before i j
-  none_so_far i j = none (before i j) (eqb i place) (ltb j i)
-    where
-      none : (a b c : Bool) → (a || (b && (c && false))) ≡ a
-      none a b c = grind (arith, nat_tests)
+  none_so_far i j = grind (arith, nat_tests, common_steps)
 
   -- all are
   pub all_so_far : (g : GraphShape) (p : ℕ) → p ≡ length items → items ≡ neighbours_of (get_or vs place 0) g.edges → (i j : ℕ) → (before i j || in_row g vs place i j) ≡ so_far before vs place items p i j
-  all_so_far g p whole is i j = ap (λ ws. before i j || (eqb i place && is_near vs ws i j)) (sym all)
-    where
-      all : take p items ≡ neighbours_of (get_or vs place 0) g.edges
-      all = ap (λ k. take k items) whole ∙ take-length items ∙ is
+  all_so_far g p whole is i j = grind (arith, nat_tests, common_steps, take-length)
 
   module _ (n : ℕ) (places : List ℕ) (num : AreNumbered n vs places) (few : length vs ≤ n) (h : place < length vs) (p : ℕ) (inside : p < length items) (below : get_or items p 0 < n) where
     grown : (i j : ℕ) → so_far before vs place items (p + 1) i j ≡ so_far before vs place items p i j || (eqb i place && (ltb j i && eqb (get_or items p 0) (get_or vs j 0)))
-    grown i j = ap (λ b. before i j || (eqb i place && (ltb j i && b))) (has_number-take (get_or vs j 0) items p inside) ∙ spread (before i j) (eqb i place) (ltb j i) (has_number (get_or vs j 0) (take p items)) (eqb (get_or items p 0) (get_or vs j 0))
-      where
-        spread : (a b c d e : Bool) → (a || (b && (c && (d || e)))) ≡ ((a || (b && (c && d))) || (b && (c && e)))
-        spread true b c d e = refl
-        spread false true true d e = refl
-        spread false true false d e = refl
-        spread false false c d e = refl
+    grown i j = grind (arith, nat_tests, common_steps, has_number-take)
 
     -- the neighbour doesn't move, or has a place that isn't less
     pub past_so_far : place ≤ get_or places (get_or items p 0) 0 → (i j : ℕ) → j < length vs → so_far before vs place items (p + 1) i j ≡ so_far before vs place items p i j
-    past_so_far high i j hj = grown i j ∙ nothing (so_far before vs place items p i j)
-      where
-        no : (b c d e : Bool) → (c ≡ false) ⊎ ((d ≡ false) ⊎ (e ≡ false)) → (b || (c && (d && e))) ≡ b
-        no b c d e (inl f) = grind (arith, nat_tests, f)
-        no b c d e (inr (inl f)) = grind (arith, nat_tests, f)
-        no b c d e (inr (inr f)) = grind (arith, nat_tests, f)
-
-        nothing : (b : Bool) → (b || (eqb i place && (ltb j i && eqb (get_or items p 0) (get_or vs j 0)))) ≡ b
-        nothing b = elim (cases_eq (get_or items p 0) (get_or vs j 0)) [
-          | inl e ↦
-              let is : get_or places (get_or items p 0) 0 ≡ j = ap (λ w. get_or places w 0) e ∙ num.at j hj in
-              let far : place ≤ j = omega (arith, is, high) in
-              elim (cases_eq i place) [
-                | inl same ↦ let not_less : i ≤ j = omega (arith, far, same) in no b (eqb i place) (ltb j i) (eqb (get_or items p 0) (get_or vs j 0)) (inr (inl (grind (arith, nat_tests, not_less))))
-                | inr ne ↦ no b (eqb i place) (ltb j i) (eqb (get_or items p 0) (get_or vs j 0)) (inl (grind (arith, nat_tests, ne)))
-              ]
-          | inr ne ↦ no b (eqb i place) (ltb j i) (eqb (get_or items p 0) (get_or vs j 0)) (inr (inr (grind (arith, nat_tests, ne))))
-        ]
+    past_so_far high i j hj = grind (arith, nat_tests, common_steps, grown, num.at)
 
     -- a neighbour that isn't less than the mover has no lesser place
     place_past : get_or vs place 0 ≤ get_or items p 0 → place ≤ get_or places (get_or items p 0) 0
@@ -98,47 +70,15 @@ module _ (before : ℕ → ℕ → Bool) (vs : List ℕ) (place : ℕ) (items : 
 
     -- what isn't less than the mover's place stands for no lesser place
     pub not_below : place ≤ place_below vs places place (get_or items p 0) → place ≤ get_or places (get_or items p 0) 0
-    not_below high = elim (cases_lt (get_or items p 0) (get_or vs place 0)) [
-      | inl lt ↦ let is : place_below vs places place (get_or items p 0) ≡ get_or places (get_or items p 0) 0 = grind (arith, nat_tests, lt) in omega (arith, is, high)
-      | inr ge ↦ place_past ge
-    ]
+    not_below high = grind (arith, nat_tests, common_steps, place_past)
 
     -- what is less is the neighbour's place
     pub is_below : place_below vs places place (get_or items p 0) < place → place_below vs places place (get_or items p 0) ≡ get_or places (get_or items p 0) 0
-    is_below low = elim (cases_lt (get_or items p 0) (get_or vs place 0)) [
-      | inl lt ↦ grind (arith, nat_tests, lt)
-      | inr ge ↦ let is : place_below vs places place (get_or items p 0) ≡ place = grind (arith, nat_tests, ge) in absurd (omega (arith, is, low))
-    ]
+    is_below low = grind (arith, nat_tests, common_steps)
 
     -- the neighbour moves and has a lesser place
     pub link_so_far : (other : ℕ) → other ≡ get_or places (get_or items p 0) 0 → other < place → (i j : ℕ) → j < length vs → so_far before vs place items (p + 1) i j ≡ so_far before vs place items p i j || (eqb i place && eqb j other)
-    link_so_far other is less i j hj = grown i j ∙ ap (λ b. so_far before vs place items p i j || b) one
-      where
-        vertex : get_or vs other 0 ≡ get_or items p 0
-        vertex = ap (λ k. get_or vs k 0) is ∙ place_of n vs places (get_or items p 0) num below (omega (arith, is, less, h)) few
-
-        both : (a b c d : Bool) → b ≡ true → c ≡ true → d ≡ true → (a && (b && c)) ≡ (a && d)
-        both a b c d e f g = grind (arith, nat_tests, e, f, g)
-
-        neither : (a b c d : Bool) → c ≡ false → d ≡ false → (a && (b && c)) ≡ (a && d)
-        neither a b c d e f = grind (arith, nat_tests, e, f)
-
-        out : (a b c d : Bool) → a ≡ false → (a && (b && c)) ≡ (a && d)
-        out a b c d e = grind (arith, nat_tests, e)
-
-        one : (eqb i place && (ltb j i && eqb (get_or items p 0) (get_or vs j 0))) ≡ (eqb i place && eqb j other)
-        one = elim (cases_eq i place) [
-          | inl at ↦ elim (cases_eq j other) [
-            | inl e ↦
-                let low : j < i = omega (arith, e, at, less) in
-                let same : get_or items p 0 ≡ get_or vs j 0 = sym vertex ∙ ap (λ k. get_or vs k 0) (sym e) in
-                both (eqb i place) (ltb j i) (eqb (get_or items p 0) (get_or vs j 0)) (eqb j other) (grind (arith, nat_tests, low)) (grind (arith, nat_tests, same)) (grind (arith, nat_tests, e))
-            | inr ne ↦
-                let apart : get_or items p 0 ≢ get_or vs j 0 = λ e. ne (rises_apart vs 0 j other num.rises hj (omega (arith, less, h)) (sym e ∙ sym vertex)) in
-                neither (eqb i place) (ltb j i) (eqb (get_or items p 0) (get_or vs j 0)) (eqb j other) (grind (arith, nat_tests, apart)) (grind (arith, nat_tests, ne))
-          ]
-          | inr ne ↦ out (eqb i place) (ltb j i) (eqb (get_or items p 0) (get_or vs j 0)) (eqb j other) (grind (arith, nat_tests, ne))
-        ]
+    link_so_far other is less i j hj = grind (arith, nat_tests, common_steps, grown, place_of, rises_apart, num.rises)
 
 module _ (before : ℕ → ℕ → Bool) (vs : List ℕ) (place : ℕ) (items : List ℕ) (parents : List ℕ) where
   pub row_first : AreGathered (length vs) before parents → AreGathered (length vs) (so_far before vs place items 0) parents
@@ -164,10 +104,7 @@ with_first before vs edges k i j = before i j || in_edges (take k edges) vs i j
 
 module _ (before : ℕ → ℕ → Bool) (vs : List ℕ) (m : ℕ) (edges : List Pair) (parents : List ℕ) where
   pub edges_first : AreGathered m before parents → AreGathered m (with_first before vs edges 0) parents
-  edges_first a = gathered_same m before (with_first before vs edges 0) parents a (λ i j hi hj. none (before i j))
-    where
-      none : (b : Bool) → (b || false) ≡ b
-      none b = grind (arith, nat_tests)
+  edges_first a = grind (arith, nat_tests, common_steps, gathered_same)
 
   pub edges_last : (k : ℕ) → k ≡ length edges → AreGathered m (with_first before vs edges k) parents → AreGathered m (λ i j. before i j || in_edges edges vs i j) parents
   edges_last k whole a = gathered_same m (with_first before vs edges k) (λ i j. before i j || in_edges edges vs i j) parents a (λ i j hi hj. ap (λ es. before i j || in_edges es vs i j) (sym (ap (λ u. take u edges) whole ∙ take-length edges)))
@@ -202,7 +139,7 @@ module _ (before : ℕ → ℕ → Bool) (vs : List ℕ) (m : ℕ) (edges : List
     edge_link a new first second is_first is_second hf hs same f =
         gathered_more m (with_first before vs edges k) (with_first before vs edges (k + 1)) parents a first second new hf hs
         (more_edges first second ∙ yes (with_first before vs edges k first second) (eqb (get_or vs first 0) (get_or edges k d).0) (eqb (get_or vs second 0) (get_or edges k d).1) (grind (arith, nat_tests, at first (get_or edges k d).0 is_first hf low.0)) (grind (arith, nat_tests, at second (get_or edges k d).1 is_second hs low.1)))
-        (λ i j hi hj e. more_edges i j ∙ still (with_first before vs edges k i j) (same_edge (get_or vs i 0, get_or vs j 0) (get_or edges k d)) e)
+        (λ i j hi hj e. more_edges i j ∙ or_left (with_first before vs edges k i j) (same_edge (get_or vs i 0, get_or vs j 0) (get_or edges k d)) e)
         (λ i j hi hj e. only i j hi hj (sym (more_edges i j) ∙ e))
         same f
       where
@@ -211,9 +148,6 @@ module _ (before : ℕ → ℕ → Bool) (vs : List ℕ) (m : ℕ) (edges : List
 
         yes : (a b c : Bool) → b ≡ true → c ≡ true → (a || (b && c)) ≡ true
         yes a b c e f = grind (arith, nat_tests, e, f)
-
-        still : (a b : Bool) → a ≡ true → (a || b) ≡ true
-        still a b e = grind (arith, nat_tests, e)
 
         only : (i j : ℕ) → i < m → j < m → (with_first before vs edges k i j || same_edge (get_or vs i 0, get_or vs j 0) (get_or edges k d)) ≡ true → (with_first before vs edges k i j ≡ true) ⊎ ((i ≡ first) × (j ≡ second))
         only i j hi hj e = elim (cases_Bool (with_first before vs edges k i j)) [

@@ -1,10 +1,11 @@
 -- The lists of labels and of moves, over plain lists.
-use Rattle.std.proofs.Common.{ℕ, suc, zero, ◌≤◌, ◌<◌, ◌≡◌, inl, inr, Bool, true, false, cond, eqb, List, [], ◌∷◌, ◌++◌, length, get_or, map, refl, ap, sym, ◌∙◌, arith, subst}
+use Rattle.std.proofs.Common.{ℕ, suc, zero, ◌≤◌, ◌<◌, ◌≡◌, inl, inr, Bool, true, false, eqb, List, [], ◌∷◌, length, get_or, map, refl, ap, sym, ◌∙◌, arith, subst}
 use Rattle.std.specs.List.{All, Contains}
 use Rattle.std.proofs.lemmas.Bool.{cases_eq}
 use Rattle.std.proofs.lemmas.Bool.Decides.{nat_tests}
 use Rattle.std.proofs.lemmas.List.{map_push}
 use Rattle.std.proofs.lemmas.List.Elements.{Contains-push, Contains-append_left}
+use Rattle.std.proofs.lemmas.Grind.{common_steps}
 use Rattle.kc_graph.specs.Numbers.{RisesFrom, AllBelow, has_number}
 use Rattle.kc_graph.proofs.lemmas.Numbers.{rises_at_least, has_number-push}
 use Rattle.kc_levels.specs.declared.moves.Move.{Move}
@@ -14,12 +15,7 @@ use Rattle.kc_groups.specs.Entries.{labels_below, moves_below}
 
 pub labels_rise : (labels : List ℕ) (k : ℕ) → RisesFrom 0 (labels_below labels k) × AllBelow k (labels_below labels k)
 labels_rise labels zero = (tt, tt)
-labels_rise labels (suc k) =
-    let before = labels_rise labels k in
-    elim (eqb (get_or labels k 0) k) as (λ t. RisesFrom 0 (cond t (labels_below labels k ++ k ∷ []) (labels_below labels k)) × AllBelow (suc k) (cond t (labels_below labels k ++ k ∷ []) (labels_below labels k))) [
-      | true ↦ (rises_push 0 k (labels_below labels k) before.0 before.1 (omega arith), below_push k (labels_below labels k) before.1)
-      | false ↦ (before.0, below_next k (labels_below labels k) before.1)
-    ]
+labels_rise labels (suc k) = grind (arith, nat_tests, common_steps, labels_rise labels k, rises_push, below_push, below_next)
 
 pub labels_own : (labels : List ℕ) (n k : ℕ) → k ≤ n → All (λ r. (get_or labels r 0 ≡ r) × (r < n)) (labels_below labels k)
 labels_own labels n zero le = λ i d h. absurd (omega arith)
@@ -48,18 +44,11 @@ vertices ms = map (λ (m : Move). m.vertex) ms
 -- what holds of the move of each vertex of the label l holds of each move of its list
 pub all_moves : (labels x y : List ℕ) (l n k : ℕ) (P : Move → Type 0) → k ≤ n → ((v : ℕ) → v < n → get_or labels v 0 ≡ l → P (move_of x y v)) → All P (moves_below labels x y l k)
 all_moves labels x y l n zero P le f = λ i d h. absurd (omega arith)
-all_moves labels x y l n (suc k) P le f =
-    all_pushed P (eqb (get_or labels k 0) l) (move_of x y k) (moves_below labels x y l k) (all_moves labels x y l n k P (omega arith) f) (λ e. f k (omega arith) (grind (arith, nat_tests, e)))
+all_moves labels x y l n (suc k) P le f = grind (arith, nat_tests, common_steps, all_moves labels x y l n k P (omega arith) f, all_pushed)
 
 pub moves_rise : (labels x y : List ℕ) (l k : ℕ) → RisesFrom 0 (vertices (moves_below labels x y l k)) × AllBelow k (vertices (moves_below labels x y l k))
 moves_rise labels x y l zero = (tt, tt)
-moves_rise labels x y l (suc k) = go (eqb (get_or labels k 0) l) (moves_rise labels x y l k)
-  where
-    go : (b : Bool) → RisesFrom 0 (vertices (moves_below labels x y l k)) × AllBelow k (vertices (moves_below labels x y l k)) → RisesFrom 0 (vertices (pushed_if b (move_of x y k) (moves_below labels x y l k))) × AllBelow (suc k) (vertices (pushed_if b (move_of x y k) (moves_below labels x y l k)))
-    go true before =
-        rw (map_push (λ (m : Move). m.vertex) (moves_below labels x y l k) (move_of x y k))
-        (rises_push 0 k (vertices (moves_below labels x y l k)) before.0 before.1 (omega arith), below_push k (vertices (moves_below labels x y l k)) before.1)
-    go false before = (before.0, below_next k (vertices (moves_below labels x y l k)) before.1)
+moves_rise labels x y l (suc k) = grind (arith, nat_tests, common_steps, moves_rise labels x y l k, map_push, rises_push, below_push, below_next)
 
 -- the move of each vertex of the label l is in the list
 pub has_move : (labels x y : List ℕ) (l k v : ℕ) → v < k → get_or labels v 0 ≡ l → Contains (moves_below labels x y l k) (move_of x y v)
@@ -88,6 +77,4 @@ pub rises_order : (xs : List ℕ) (low i j : ℕ) → RisesFrom low xs → i < l
 rises_order [] low i j up h k le = absurd (omega arith)
 rises_order (x ∷ xs) low zero j up h k le = omega arith
 rises_order (x ∷ xs) low (suc i) zero up h k le = absurd (omega (arith, rises_at_least (suc x) xs i up.1 (omega arith), le))
-rises_order (x ∷ xs) low (suc i) (suc j) up h k le =
-    let later : i ≤ j = rises_order xs (suc x) i j up.1 (omega arith) (omega arith) le in
-    omega (arith, later)
+rises_order (x ∷ xs) low (suc i) (suc j) up h k le = grind (arith, nat_tests, common_steps, rises_order xs (suc x) i j up.1 (omega arith) (omega arith) le, up.1)

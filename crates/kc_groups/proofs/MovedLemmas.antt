@@ -1,13 +1,13 @@
 -- The list of the vertices that move: what a loop over it keeps, and what holds past the vertices that stay.
-use Rattle.std.proofs.Common.{ℕ, suc, zero, ◌+◌, ◌-◌, ◌≤◌, ◌<◌, ◌≡◌, inl, inr, Bool, true, false, not, eqb, ltb, ◌&&◌, take, drop, List, [], ◌∷◌, ◌++◌, length, get_or, refl, ap, sym, ◌∙◌, arith, add-one, subst}
+use Rattle.std.proofs.Common.{ℕ, suc, zero, ◌+◌, ◌-◌, ◌≤◌, ◌<◌, ◌≡◌, inl, inr, Bool, true, false, not, eqb, take, drop, List, [], ◌∷◌, ◌++◌, length, get_or, refl, ap, sym, ◌∙◌, arith, add-one, subst}
 use lib.Pointwise.{pointwise}
-use Rattle.std.proofs.lemmas.Bool.{cases_eq, cases_lt, cases_Bool, not-false}
+use Rattle.std.proofs.lemmas.Bool.{cases_eq, not-false}
 use Rattle.std.proofs.lemmas.Bool.Decides.{nat_tests, Decides-eqb}
 use Rattle.std.proofs.lemmas.Slice.Eq.{slice_eq-Decides}
 use Rattle.std.proofs.lemmas.List.{get_or-take, get_or-drop, length_push, get_or_push, get_or_append_left, get_or_past, get_or_default}
+use Rattle.std.proofs.lemmas.Grind.{common_steps}
 use Rattle.kc_levels.specs.Moved.{is_moved, pushed_if, moved_below}
 use Rattle.kc_levels.proofs.lemmas.Moves.{moved_all, moved_below_is}
-use Rattle.kc_graph.specs.Numbers.{has_number}
 use Rattle.kc_graph.proofs.lemmas.Numbers.{has_number_index, all_from_below}
 use Rattle.kc_levels.specs.declared.moves.Move.{Move}
 use Rattle.kc_groups.specs.Gathering.{vertices, AreInOrder}
@@ -53,38 +53,11 @@ read_push (x ∷ xs) k (suc i) h = read_push xs k i (omega arith)
 pub over : (P : ℕ → Type 0) (moved : ℕ → Bool) (n : ℕ) → ((k : ℕ) → k < n → moved k ≡ false → P k → P (suc k)) → (i : ℕ) → i ≤ length (moved_below moved n) → P (begins (moved_below moved n) i) → P (get_or (moved_below moved n) i n)
 over P moved zero still zero h p = p
 over P moved zero still (suc i) h p = absurd (omega arith)
-over P moved (suc n) still i h p = go (moved n) refl (over P moved n (λ k lt. still k (omega arith))) h p
-  where
-    go : (b : Bool) → moved n ≡ b → ((j : ℕ) → j ≤ length (moved_below moved n) → P (begins (moved_below moved n) j) → P (get_or (moved_below moved n) j n)) → i ≤ length (pushed_if b n (moved_below moved n)) → P (begins (pushed_if b n (moved_below moved n)) i) → P (get_or (pushed_if b n (moved_below moved n)) i (suc n))
-    go true e again le here = elim (cases_lt (length (moved_below moved n)) i) [
-      | inl last ↦
-          let is : i ≡ suc (length (moved_below moved n)) = omega (arith, length_push (moved_below moved n) n) in
-          let begin : begins ((moved_below moved n) ++ n ∷ []) i ≡ suc n = ap (begins ((moved_below moved n) ++ n ∷ [])) is ∙ ap suc (get_or_push (moved_below moved n) n 0 (length (moved_below moved n)) refl) in
-          subst P (begin ∙ sym (get_or_past ((moved_below moved n) ++ n ∷ []) i (suc n) (omega (arith, length_push (moved_below moved n) n)))) here
-      | inr old ↦
-          subst P (sym (read_push (moved_below moved n) n i old)) (again i old (subst P (begins_push (moved_below moved n) n i old) here))
-    ]
-    go false e again le here = elim (cases_lt i (length (moved_below moved n))) [
-      | inl old ↦ subst P (get_or_default (moved_below moved n) i n (suc n) old) (again i (omega arith) here)
-      | inr past ↦
-          subst P (sym (get_or_past (moved_below moved n) i (suc n) past)) (still n (omega arith) e (subst P (get_or_past (moved_below moved n) i n past) (again i le here)))
-    ]
+over P moved (suc n) still i h p = grind (arith, nat_tests, common_steps, over P moved n (λ k lt. still k (omega arith)), length_push, get_or_push, get_or_past, read_push, begins_push, get_or_default)
 
 -- moves in order are those of the vertices below n that are among them
 pub movers_below : (n : ℕ) (ms : List Move) → AreInOrder n ms → vertices ms ≡ moved_below (is_mover ms) n
-movers_below n ms order = moved_below_is (is_mover ms) n (vertices ms) order.rises (λ v. each v)
-  where
-    each : (v : ℕ) → has_number v (vertices ms) ≡ ltb v n && has_number v (vertices ms)
-    each v = elim (cases_Bool (has_number v (vertices ms))) [
-      | inl there ↦
-          let place = has_number_index v (vertices ms) there in
-          let low : v < n = omega (arith, all_from_below n (vertices ms) order.below place.0 0 place.1, place.2) in
-          grind (arith, nat_tests, low)
-      | inr out ↦ rw out (sym (nothing (ltb v n)))
-    ]
-      where
-        nothing : (b : Bool) → (b && false) ≡ false
-        nothing b = grind (arith, nat_tests)
+movers_below n ms order = grind (arith, nat_tests, common_steps, moved_below_is, has_number_index, all_from_below, order.rises, order.below)
 
 module _ (moved : ℕ → Bool) (n : ℕ) (items : List ℕ) (is : items ≡ moved_below moved n) where
   -- the vertex at place i moves
@@ -94,9 +67,6 @@ module _ (moved : ℕ → Bool) (n : ℕ) (items : List ℕ) (is : items ≡ mov
   module _ (P : ℕ → Type 0) where
     pub moved_this : (i : ℕ) → i < length items → P (get_or items i n) → P (get_or items i 0)
     moved_this i h p = subst P (get_or_default items i n 0 h) p
-
-    pub moved_last : (i : ℕ) → i ≡ length items → P (get_or items i n) → P n
-    moved_last i e p = subst P (get_or_past items i n (omega arith)) p
 
     module _ (still : (k : ℕ) → k < n → moved k ≡ false → P k → P (k + 1)) where
       from : (i : ℕ) → i ≤ length items → P (begins items i) → P (get_or items i n)
@@ -119,9 +89,6 @@ module _ (n : ℕ) (ms : List Move) (order : AreInOrder n ms) where
   module _ (P : ℕ → Type 0) where
     pub mover_this : (i : ℕ) → i < length ms → P (get_or (vertices ms) i n) → P (get_or ms i no_move).vertex
     mover_this i h p = at_vertex P i h (moved_this (is_mover ms) n (vertices ms) (movers_below n ms order) P i (omega (arith, many ms, h)) p)
-
-    pub mover_last : (i : ℕ) → i ≡ length ms → P (get_or (vertices ms) i n) → P n
-    mover_last i e p = moved_last (is_mover ms) n (vertices ms) (movers_below n ms order) P i (e ∙ sym (many ms)) p
 
     module _ (still : (k : ℕ) → k < n → is_mover ms k ≡ false → P k → P (k + 1)) where
       pub mover_first : P 0 → P (get_or (vertices ms) 0 n)

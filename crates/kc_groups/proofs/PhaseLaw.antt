@@ -3,6 +3,8 @@ use Rattle.std.proofs.Common.{ℕ, ◌≡◌, Bool, true, false, cond, ◌||◌,
 use Rattle.std.specs.Prelude.{All}
 use Rattle.std.proofs.lemmas.Bool.Decides.{nat_tests}
 use Rattle.std.proofs.lemmas.List.Elements.{All-cons, All-nil}
+use Rattle.std.proofs.lemmas.Bool.{or_right}
+use Rattle.std.proofs.lemmas.Grind.{common_steps}
 use Rattle.kc_graph.specs.Shape.{GraphShape, Pair, EdgesFrom, IsGraph, same_edge, has_edge, with_edges, without_edges}
 use Rattle.kc_graph.specs.Changes.{AllPresent}
 use Rattle.kc_graph.proofs.lemmas.Changes.{vertices-with_edges, vertices-without_edges, has_edge-with_edges, insertions_keep_graph, removals_keep_graph, inside_from_ascending}
@@ -18,14 +20,10 @@ use Rattle.kc_groups.proofs.LeadLaw.{entries_lead_over}
 own_edge : (e : Pair) (es : List Pair) → has_edge e (e ∷ es) ≡ true
 own_edge e es = grind (arith, nat_tests)
 
-or_later : (a b : Bool) → b ≡ true → (a || b) ≡ true
-or_later true b e = refl
-or_later false b e = e
-
 -- what is true of each edge of a list
 all_members : (P : Pair → Type 0) (es : List Pair) → ((e : Pair) → has_edge e es ≡ true → P e) → All P es
 all_members P [] h = All-nil P
-all_members P (e ∷ es) h = All-cons P e es (h e (own_edge e es)) (all_members P es (λ f m. h f (or_later (same_edge f e) (has_edge f es) m)))
+all_members P (e ∷ es) h = All-cons P e es (h e (own_edge e es)) (all_members P es (λ f m. h f (or_right (same_edge f e) (has_edge f es) m)))
 
 -- edges that came in are there
 pub present_after : (g : GraphShape) (es : List Pair) → AllPresent (with_edges g es) es
@@ -38,30 +36,14 @@ pub record AreKept (g h : GraphShape) (y : List ℕ) : Type 0 where
   pub sized : length y ≡ h.vertices
 
 kept_as : (p : Profile) (add : Bool) (g h : GraphShape) (x y : List ℕ) (es : List Pair) → IsGraph g → EdgesFrom g.vertices 0 0 es → h ≡ graph_after_phase add g es → AreLevelsAfterPhase p add g es x y → AreKept g h y
-kept_as p true g h x y es graph up is moved = rw is (record {
-  graph = insertions_keep_graph g es graph (inside_from_ascending g.vertices 0 0 es up);
-  vertices = vertices-with_edges g es;
-  sized = moved.raisable.sized;
-})
-kept_as p false g h x y es graph up is moved = rw is (record {
-  graph = removals_keep_graph g es graph;
-  vertices = vertices-without_edges g es;
-  sized = moved.lowerable.sized;
-})
+kept_as p true g h x y es graph up is moved = grind (arith, nat_tests, common_steps, insertions_keep_graph, inside_from_ascending, vertices-with_edges, moved.raisable.sized)
+kept_as p false g h x y es graph up is moved = grind (arith, nat_tests, common_steps, removals_keep_graph, vertices-without_edges, moved.lowerable.sized)
 
 pub kept : (p : Profile) (g h : GraphShape) (x y : List ℕ) (plan : PhasePlan) → IsGraph g → LeadsTo p g x plan h y → AreKept g h y
 kept p g h x y plan graph a = kept_as p a.add g h x y a.edges graph a.ascending a.graph a.levels
 
 phase_as : (add : Bool) (g h : GraphShape) (x y : List ℕ) (es : List Pair) → IsGraph g → length x ≡ g.vertices → EdgesFrom g.vertices 0 0 es → AreChangeable add g es → AreKept g h y → IsPhase es x y (graph_with_all add g es)
-phase_as true g h x y es graph sized up ready k =
-    let same = vertices-with_edges g es in
-    record {
-      graph = insertions_keep_graph g es graph (inside_from_ascending g.vertices 0 0 es up);
-      before = sized ∙ sym same;
-      after = k.sized ∙ k.vertices ∙ sym same;
-      ascending = rw same up;
-      present = present_after g es;
-    }
+phase_as true g h x y es graph sized up ready k = grind (arith, nat_tests, common_steps, vertices-with_edges, insertions_keep_graph, inside_from_ascending, present_after, k.sized, k.vertices)
 phase_as false g h x y es graph sized up ready k = record { graph = graph; before = sized; after = k.sized ∙ k.vertices; ascending = up; present = ready }
 
 -- a phase is one on the graph that has all its edges

@@ -1,7 +1,8 @@
 -- The rows of some places, and those of all places piece by piece.
-use Rattle.std.proofs.Common.{ℕ, ◌+◌, ◌-◌, ◌*◌, ◌/◌, ◌%◌, min, ◌≤◌, ◌<◌, ◌≡◌, ◌≢◌, inl, inr, Bool, true, false, ◌&&◌, ◌||◌, eqb, leb, ltb, List, get_or, ap, sym, ◌∙◌, arith}
-use Rattle.std.proofs.lemmas.Bool.{cases_eq, cases_lt}
+use Rattle.std.proofs.Common.{ℕ, ◌+◌, ◌-◌, ◌*◌, ◌/◌, ◌%◌, min, ◌≤◌, ◌<◌, ◌≡◌, inl, inr, Bool, true, false, ◌&&◌, ◌||◌, leb, ltb, List, get_or, ap, sym, ◌∙◌, arith}
+use Rattle.std.proofs.lemmas.Bool.{cases_lt}
 use Rattle.std.proofs.lemmas.Bool.Decides.{nat_tests}
+use Rattle.std.proofs.lemmas.Grind.{common_steps}
 use Rattle.kc_graph.specs.Shape.{GraphShape, Pair, neighbours_of}
 use Rattle.kc_groups.specs.private.Forest.{AreGathered}
 use Rattle.kc_groups.specs.private.Gathering.{AreLinks, is_near, in_rows, in_row, in_piece}
@@ -15,31 +16,16 @@ near g vs i j = is_near vs (neighbours_of (get_or vs i 0) g.edges) i j
 module _ (m : ℕ) (g : GraphShape) (vs : List ℕ) where
   -- one place more
   piece_more : (from k i j : ℕ) → from ≤ k → in_piece g vs from (k + 1) i j ≡ (in_piece g vs from k i j || in_row g vs k i j)
-  piece_more from k i j le = elim (cases_eq i k) [
-    | inl e ↦ at (near g vs i j) (is_near vs (neighbours_of (get_or vs k 0) g.edges) i j) e (ap (λ v. is_near vs (neighbours_of (get_or vs v 0) g.edges) i j) e)
-    | inr ne ↦ other (near g vs i j) (is_near vs (neighbours_of (get_or vs k 0) g.edges) i j) ne
-  ]
-    where
-      at : (a b : Bool) → i ≡ k → a ≡ b → (leb from i && (ltb i (k + 1) && a)) ≡ ((leb from i && (ltb i k && a)) || (eqb i k && b))
-      at a b e f = grind (arith, nat_tests, e, f, le)
-
-      other : (a b : Bool) → i ≢ k → (leb from i && (ltb i (k + 1) && a)) ≡ ((leb from i && (ltb i k && a)) || (eqb i k && b))
-      other a b ne = grind (arith, nat_tests, ne)
+  piece_more from k i j le = grind (arith, nat_tests, common_steps)
 
   -- the piece from the first place on
   from_first : (k i j : ℕ) → in_rows g vs k i j ≡ in_piece g vs 0 k i j
-  from_first k i j = same (in_rows g vs k i j)
-    where
-      same : (b : Bool) → b ≡ (leb 0 i && b)
-      same b = grind (arith, nat_tests)
+  from_first k i j = grind (arith, nat_tests, common_steps)
 
   module _ (parents : List ℕ) where
     -- no place is there yet
     pub rows_first : (k : ℕ) → k ≡ 0 → AreGathered m (λ i j. false) parents → AreGathered m (in_rows g vs k) parents
-    rows_first k e a = gathered_same m (λ i j. false) (in_rows g vs k) parents a (λ i j hi hj. none i (near g vs i j))
-      where
-        none : (i : ℕ) (b : Bool) → (ltb i k && b) ≡ false
-        none i b = grind (arith, nat_tests, e)
+    rows_first k e a = grind (arith, nat_tests, common_steps, gathered_same)
 
     -- one place more
     pub rows_more : (k : ℕ) → AreGathered m (λ i j. in_rows g vs k i j || in_row g vs k i j) parents → AreGathered m (in_rows g vs (k + 1)) parents
@@ -59,10 +45,7 @@ module _ (m : ℕ) (g : GraphShape) (vs : List ℕ) where
   module _ (links : List Pair) where
     -- no place is there yet
     pub found_none : (from : ℕ) → AreLinks m (λ i j. false) links → AreLinks m (in_piece g vs from from) links
-    found_none from l = links_same m (λ i j. false) (in_piece g vs from from) links l (λ i j hi hj. none i (near g vs i j))
-      where
-        none : (i : ℕ) (b : Bool) → (leb from i && (ltb i from && b)) ≡ false
-        none i b = grind (arith, nat_tests)
+    found_none from l = grind (arith, nat_tests, common_steps, links_same)
 
     -- one place more
     pub found_more : (from k : ℕ) → from ≤ k → AreLinks m (λ i j. in_piece g vs from k i j || in_row g vs k i j) links → AreLinks m (in_piece g vs from (k + 1)) links
@@ -70,12 +53,8 @@ module _ (m : ℕ) (g : GraphShape) (vs : List ℕ) where
 
 -- where a piece ends, at which the next one starts
 pub piece_ends : (m size i len : ℕ) → len ≡ min size (m - i * size) → i * size + len ≤ m → (min (i * size) m ≡ i * size) × (i * size + len ≡ min ((i + 1) * size) m)
-piece_ends m size i len is inside =
-    let next : (i + 1) * size ≡ i * size + size = omega arith in
-    (omega (arith, inside), omega (arith, next, is, inside))
+piece_ends m size i len is inside = grind (arith, nat_tests, common_steps)
 
 -- the last piece ends with the last place
 pub last_ends : (m size count : ℕ) → 0 < size → count ≡ m / size + min 1 (m % size) → min (count * size) m ≡ m
-last_ends m size count some is =
-    let reach : m ≤ count * size = grind arith in
-    omega (arith, reach)
+last_ends m size count some is = grind (arith, nat_tests, common_steps)

@@ -1,10 +1,10 @@
 -- There is one plan of a phase, and it is well formed.
-use Rattle.std.proofs.Common.{ℕ, ◌<◌, ◌≡◌, ◌≢◌, inl, inr, Bool, true, List, [], ◌∷◌, length, get_or, map, refl, ap, sym, ◌∙◌, arith, subst}
+use Rattle.std.proofs.Common.{ℕ, ◌<◌, ◌≡◌, ◌≢◌, Bool, true, List, [], ◌∷◌, length, get_or, map, refl, ap, sym, ◌∙◌, arith, subst}
 use Rattle.std.specs.Prelude.{Some}
-use Rattle.std.proofs.lemmas.Bool.{cases_Bool}
 use Rattle.std.proofs.lemmas.Bool.Decides.{nat_tests}
 use Rattle.std.proofs.lemmas.List.{length-map, get_or-map}
 use Rattle.std.proofs.lemmas.List.Elements.{All-map}
+use Rattle.std.proofs.lemmas.Grind.{common_steps}
 use Rattle.kc_graph.specs.Shape.{GraphShape, Pair}
 use Rattle.kc_levels.specs.Moved.{is_moved}
 use Rattle.kc_levels.specs.declared.moves.Move.{Move}
@@ -18,9 +18,7 @@ use Rattle.kc_groups.proofs.LabelLaw.{labels_exist, labels_one}
 use Rattle.kc_groups.proofs.ListLemmas.{labels_rise, labels_own, all_moves, moves_rise, has_move, rises_apart, vertices}
 
 same_plan : (p q : PhasePlan) → p.quiet ≡ q.quiet → p.groups ≡ q.groups → p ≡ q
-same_plan p q e f =
-    let first : p ≡ record { quiet = q.quiet; groups = p.groups } = ap (λ (t : Entry). let r : PhasePlan = record { quiet = t; groups = p.groups } in r) e in
-    first ∙ ap (λ (ts : List Entry). let r : PhasePlan = record { quiet = q.quiet; groups = ts } in r) f
+same_plan p q e f = grind (arith, nat_tests, common_steps)
 
 pub plan_one : (phase : ℕ) (add : Bool) (edges : List Pair) (x y : List ℕ) (g : GraphShape) (p q : PhasePlan) → AreEntries phase add edges x y g p → AreEntries phase add edges x y g q → p ≡ q
 plan_one phase add edges x y g p q a b =
@@ -36,10 +34,7 @@ plan_is_one phase add edges x y g graph =
 
 -- a vertex with a label moves
 pub moves_if_labelled : (g : GraphShape) (moved : ℕ → Bool) (labels : List ℕ) (v : ℕ) → AreLabels g moved labels → v < g.vertices → get_or labels v 0 < g.vertices → moved v ≡ true
-moves_if_labelled g moved labels v a h low = elim (cases_Bool (moved v)) [
-  | inl m ↦ m
-  | inr still ↦ absurd (omega (arith, a.none v h still))
-]
+moves_if_labelled g moved labels v a h low = grind (arith, nat_tests, common_steps, a.none)
 
 differ : (x y : List ℕ) (v : ℕ) → is_moved x y v ≡ true → get_or x v 0 ≢ get_or y v 0
 differ x y v m = grind (arith, nat_tests, m)

@@ -1,9 +1,10 @@
 -- What each step of a plan leaves for the next, over plain lists.
-use Rattle.std.proofs.Common.{ℕ, ◌≤◌, ◌<◌, ◌≡◌, inl, inr, Bool, true, false, not, eqb, ltb, ◌&&◌, ◌||◌, List, [], length, get_or, map, filter, ap, sym, ◌∙◌, arith, subst}
+use Rattle.std.proofs.Common.{ℕ, ◌<◌, ◌≡◌, inl, inr, Bool, true, false, not, eqb, ltb, ◌&&◌, ◌||◌, List, [], length, get_or, map, filter, ap, sym, ◌∙◌, arith, subst}
 use Rattle.std.specs.Prelude.{None, All}
 use Rattle.std.proofs.lemmas.Bool.{cases_lt}
 use Rattle.std.proofs.lemmas.Bool.Decides.{nat_tests}
 use Rattle.std.proofs.lemmas.List.{length-map, get_or-map, get_or_past}
+use Rattle.std.proofs.lemmas.Grind.{common_steps}
 use Rattle.kc_graph.specs.Numbers.{has_number}
 use Rattle.kc_graph.specs.Shape.{GraphShape, Pair, IsGraph, EdgesFrom, with_edges}
 use Rattle.kc_graph.specs.Changes.{AllPresent}
@@ -99,13 +100,8 @@ module _ (g : GraphShape) (gone : List Pair) (ms : List Move) (graph : IsGraph g
       none_else v h out = stays (length labels) labels (labels_below labels (length labels)) places p (is_mover ms) rooted_here v (omega (arith, h, p.sized)) out ∙ sym p.sized
 
       module _ (dealt : List Entry) (m : AreDealt (with_moves places ms) opened dealt) where
-        pub few_places : length dealt ≤ length places
-        few_places = omega (arith, m.sized, long, p.few, p.sized)
-
         pub no_edges : All (λ (e : Entry). e.edges ≡ []) dealt
-        no_edges k d h =
-            let inside : k < length opened = omega (arith, m.sized, h) in
-            ap (λ (e : Entry). e.edges) (m.each k d inside) ∙ ap (λ (e : Entry). e.edges) (empty_at k d inside)
+        no_edges k d h = grind (arith, nat_tests, common_steps, empty_at, m.sized, m.each)
 
         module _ (edges : List Pair) (there : AllPresent (with_edges g gone) edges) where
           joined_at : (k : ℕ) (d : Pair) → k < length edges → IsJoined (length labels) (is_mover ms) labels (get_or edges k d)

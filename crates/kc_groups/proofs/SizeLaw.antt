@@ -1,8 +1,10 @@
 -- A well-formed plan has at most as many groups, and each group at most as many moves, as there are vertices.
-use Rattle.std.proofs.Common.{ℕ, ◌≤◌, ◌<◌, ◌≡◌, ◌≢◌, Bool, true, false, ◌||◌, List, [], ◌∷◌, Some, length, get_or, map, All, suc, zero, refl, sym, ap, ◌∙◌, subst, arith, eqb, ne_eqb}
+use Rattle.std.proofs.Common.{ℕ, ◌≤◌, ◌<◌, ◌≡◌, ◌≢◌, Bool, true, false, ◌||◌, List, [], ◌∷◌, length, get_or, map, All, suc, zero, refl, sym, ap, ◌∙◌, subst, arith, eqb, ne_eqb}
 use Rattle.std.specs.List.{IsDistinct, AllByRecursion, list_any}
 use Rattle.std.proofs.lemmas.Bool.Decides.{nat_tests}
 use Rattle.std.proofs.lemmas.Map.Steps.{length-le_from_distinct_below}
+use Rattle.std.proofs.lemmas.List.{get_or-map}
+use Rattle.std.proofs.lemmas.Grind.{common_steps}
 use Rattle.kc_graph.proofs.lemmas.Numbers.{length-rising}
 use Rattle.kc_levels.specs.declared.moves.Move.{Move}
 use Rattle.kc_history.specs.declared.entries.Entry.{Entry}
@@ -34,17 +36,8 @@ same_length : {A B : Type 0} → (f : A → B) (xs : List A) → length (map f x
 same_length f [] = refl
 same_length f (x ∷ xs) = ap suc (same_length f xs)
 
-mapped : {A B : Type 0} → (f : A → B) (xs : List A) (i : ℕ) (d : A) (b : B) → i < length xs → get_or (map f xs) i b ≡ f (get_or xs i d)
-mapped f [] i d b lt = absurd (omega (arith, lt))
-mapped f (x ∷ xs) zero d b lt = refl
-mapped f (x ∷ xs) (suc i) d b lt = mapped f xs i d b (omega (arith, lt))
-
 few_groups : (n : ℕ) (plan : PhasePlan) → IsWellFormed n plan → length plan.groups ≤ n
-few_groups n plan w =
-    let rising = length-rising n 0 w.labels w.labels_rise w.labels_below (omega arith) in
-    let groups = same_length (λ (e : Entry). e.label) plan.groups in
-    let labels = same_length Some w.labels in
-    let both = ap length w.labels_are in omega (arith, rising, groups, labels, both)
+few_groups n plan w = grind (arith, nat_tests, common_steps, length-rising, same_length, w.labels, w.labels_rise, w.labels_below, w.labels_are)
 
 few_moves : (n : ℕ) (plan : PhasePlan) → IsWellFormed n plan → All (λ (e : Entry). length e.moves ≤ n) plan.groups
 few_moves n plan w k d inside =
@@ -60,7 +53,7 @@ few_moves n plan w k d inside =
     let few : i < length e.moves = omega (arith, lt, size) in
     let m : Move = record { vertex = 0; old = 0; new = 0 } in
     let good = (w.groups k d inside).moves i m few in
-    subst (λ z. z < n) (sym (mapped (λ (m : Move). m.vertex) e.moves i m 0 few)) good.vertex) on) in
+    subst (λ z. z < n) (sym (get_or-map (λ (m : Move). m.vertex) e.moves i m 0 few)) good.vertex) on) in
     omega (arith, most, size)
   where
     any : (es : List Entry) (i : ℕ) (a b : Entry) → i < length es → get_or es i a ≡ get_or es i b

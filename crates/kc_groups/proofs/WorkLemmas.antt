@@ -1,8 +1,9 @@
 -- Tables with a number for each vertex, in which the numbers of the movers are written one after another.
 use Rattle.std.proofs.Common.{ℕ, ◌+◌, ◌<◌, ◌≡◌, inl, inr, List, length, get_or, set, replicate, ap, sym, ◌∙◌, arith}
-use Rattle.std.proofs.lemmas.Bool.{cases_eq, cases_Bool, true≢false}
+use Rattle.std.proofs.lemmas.Bool.{cases_Bool, true≢false}
 use Rattle.std.proofs.lemmas.List.{length-map, length-replicate, get_or-map, get_or-set_same, get_or-set_other, get_or-replicate}
-use Rattle.std.proofs.lemmas.Grind.{same_number_lists}
+use Rattle.std.proofs.lemmas.Grind.{same_number_lists, common_steps}
+use Rattle.std.proofs.lemmas.Bool.Decides.{nat_tests}
 use Rattle.kc_graph.specs.Numbers.{RisesFrom, AllBelow, has_number}
 use Rattle.kc_graph.proofs.lemmas.Numbers.{all_from_below, has_number_at, has_number_index}
 use Rattle.kc_levels.specs.declared.moves.Move.{Move}
@@ -29,10 +30,7 @@ module _ (n : ℕ) (vs ps : List ℕ) (k v u : ℕ) (rises : RisesFrom 0 vs) (h 
   keeps_none none w hw out = get_or-set_other ps v w u 0 (λ e. true≢false (sym (has_number_at w vs k h (sym is ∙ sym e)) ∙ out)) ∙ none w hw out
 
   pub keeps_at : (f : ℕ → ℕ) → ((i : ℕ) → i < k → get_or ps (get_or vs i 0) 0 ≡ f i) → u ≡ f k → (i : ℕ) → i < k + 1 → get_or (set ps v u) (get_or vs i 0) 0 ≡ f i
-  keeps_at f before now i lt = elim (cases_eq i k) [
-    | inl e ↦ ap (λ j. get_or (set ps v u) (get_or vs j 0) 0) e ∙ ap (λ w. get_or (set ps v u) w 0) (sym is) ∙ get_or-set_same ps v u 0 low ∙ now ∙ ap f (sym e)
-    | inr ne ↦ get_or-set_other ps v (get_or vs i 0) u 0 (λ e. ne (rises_apart vs 0 i k rises (omega (arith, lt, ne, h)) h (e ∙ is))) ∙ before i (omega (arith, lt, ne))
-  ]
+  keeps_at f before now i lt = grind (arith, nat_tests, common_steps, get_or-set_same, get_or-set_other, rises_apart)
 
 -- where no mover has a number either the table is clean
 pub cleaned : (n : ℕ) (vs ps : List ℕ) → length ps ≡ n → HaveNone n vs ps → ((i : ℕ) → i < length vs → get_or ps (get_or vs i 0) 0 ≡ n) → ps ≡ clean n

@@ -47,9 +47,9 @@ pub(crate) fn open_groups(
 // The number of entries that are prefetched together: the entries and their lists lie anywhere in memory.
 const TOGETHER: usize = 16;
 
-// Prefetches the end of the entry's moves: loads the last move. Always true, since each move of the entry is of one of
+// Prefetches the end of the entry's moves: loads the last move. Returns true, since each move of the entry is of one of
 // n vertices. The compiler can't know that, so it keeps the load.
-fn ends_inside(entry: &Entry, n: usize) -> bool
+fn prefetch_last_move(entry: &Entry, n: usize) -> bool
     requires { All (λ m. m.vertex < n) entry.now.moves }
     ensures { result ≡ true }
 {
@@ -59,8 +59,8 @@ fn ends_inside(entry: &Entry, n: usize) -> bool
     }
 }
 
-// Returns the place of the vertex of move k. At every 16th move it prefetches the entries of the next 16.
-fn move_in_turn(moves: &[Move], places: &[u32], entries: &[Entry], k: usize) -> u32
+// Returns the place of the vertex of move k. At every 16th move, first prefetches the entries of the next 16.
+fn prefetched_move_place(moves: &[Move], places: &[u32], entries: &[Entry], k: usize) -> u32
     requires inside { k < length moves.now }
     requires placed { All (λ m. (m.vertex < length places.now) × (slice_index places.now m.vertex < length entries.now)) moves.now }
     requires dealt { AreMovesBelow (length places.now) entries.now }
@@ -72,7 +72,7 @@ fn move_in_turn(moves: &[Move], places: &[u32], entries: &[Entry], k: usize) -> 
     }
     for i in k..moves.len().min(k + TOGETHER) {
         let entry = &entries[places[moves[i].vertex as usize] as usize];
-        if !ends_inside(entry, places.len()) {
+        if !prefetch_last_move(entry, places.len()) {
             return 0;
         }
     }
@@ -90,7 +90,7 @@ pub(crate) fn deal_moves(
     ensures { OnOk result (AreDealt (with_moves places.now moves.now) entries.old.items entries.new.items) }
 {
     for k in 0..moves.len() {
-        let place = move_in_turn(moves, places, entries, k);
+        let place = prefetched_move_place(moves, places, entries, k);
         entries[place as usize].push_move(moves[k])?;
     }
     Ok(())
@@ -111,9 +111,9 @@ fn place_at(places: &[u32], e: Edge) -> u32
     }
 }
 
-// Prefetches the end of the entry's edges: loads the last edge. Always true, since each edge has its lesser vertex
+// Prefetches the end of the entry's edges: loads the last edge. Returns true, since each edge has its lesser vertex
 // first. The compiler can't know that, so it keeps the load.
-fn ends_in_order(entry: &Entry) -> bool
+fn prefetch_last_edge(entry: &Entry) -> bool
     ensures { result ≡ true }
 {
     match entry.edges.last() {
@@ -122,8 +122,8 @@ fn ends_in_order(entry: &Entry) -> bool
     }
 }
 
-// Returns the place of edge k (`place_at`). At every 16th edge it prefetches the entries of the next 16.
-fn edge_in_turn(edges: &[Edge], places: &[u32], entries: &[Entry], k: usize) -> u32
+// Returns the place of edge k (`place_at`). At every 16th edge, first prefetches the entries of the next 16.
+fn prefetched_edge_place(edges: &[Edge], places: &[u32], entries: &[Entry], k: usize) -> u32
     requires small { length places.now ≤ MAX_VERTICES }
     requires inside { k < length edges.now }
     requires placed { All (IsPlacedEdge (length places.now) (length entries.now) places.now) edges.now }
@@ -135,7 +135,7 @@ fn edge_in_turn(edges: &[Edge], places: &[u32], entries: &[Entry], k: usize) -> 
     }
     for i in k..edges.len().min(k + TOGETHER) {
         if let Some(entry) = entries.get(place_at(places, edges[i]) as usize) {
-            if !ends_in_order(entry) {
+            if !prefetch_last_edge(entry) {
                 return 0;
             }
         }
@@ -160,7 +160,7 @@ pub(crate) fn deal_edges(
 {
     let n = places.len() as u32;
     for k in 0..edges.len() {
-        let place = edge_in_turn(edges, places, entries, k);
+        let place = prefetched_edge_place(edges, places, entries, k);
         if place < n {
             entries[place as usize].push_edge(edges[k])?;
         } else {

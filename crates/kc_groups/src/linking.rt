@@ -25,27 +25,27 @@ pub(crate) fn lone_places(alloc: Global, m: u32) -> Result<Vec<u32>, AllocError>
 // The number of moves whose rows are prefetched together.
 const TOGETHER: u32 = 16;
 
-// Prefetches the rows of the vertices of the 16 moves from this place on. Always true; the compiler can't know that, so
-// it keeps the loads.
-fn are_at_hand(graph: &Graph, moves: &[Move], place: u32) -> bool
+// Prefetches the rows of the vertices of the 16 moves from this place on. Returns true, which the compiler can't know,
+// so it keeps the loads.
+fn prefetch_rows(graph: &Graph, moves: &[Move], place: u32) -> bool
     requires { place ≤ length moves.now }
     ensures { result ≡ true }
 {
     let end = moves.len().min(place as usize + TOGETHER as usize);
     for k in place as usize..end {
-        if !graph.is_at_hand(moves[k].vertex) {
+        if !graph.prefetch_row(moves[k].vertex) {
             return false;
         }
     }
     true
 }
 
-// Returns the vertex of the move at `place`. At every 16th place it prefetches the rows of the next 16.
-fn vertex_in_turn(graph: &Graph, moves: &[Move], place: u32) -> u32
+// Returns the vertex of the move at `place`. At every 16th place, first prefetches the rows of the next 16.
+fn prefetched_vertex(graph: &Graph, moves: &[Move], place: u32) -> u32
     requires { place < length moves.now }
     ensures { result ≡ slice_index (vertices moves.now) place }
 {
-    if place % TOGETHER == 0 && !are_at_hand(graph, moves, place) {
+    if place % TOGETHER == 0 && !prefetch_rows(graph, moves, place) {
         return 0;
     }
     moves[place as usize].vertex
@@ -71,7 +71,7 @@ fn link_row(graph: &Graph, moves: &[Move], places: &[u32], parents: &mut Vec<u32
     requires forest { (roots : List ℕ) × IsForest parents.old.items roots }
     ensures { Joins (length moves.now) (in_row graph.now (vertices moves.now) place) parents.old.items parents.new.items }
 {
-    let v = vertex_in_turn(graph, moves, place);
+    let v = prefetched_vertex(graph, moves, place);
     for w in graph.neighbours(v) {
         let other = place_below(places, v, *w, place);
         if other < place {
@@ -110,7 +110,7 @@ fn find_links(
     requires numbered { AreNumbered graph.now.vertices (vertices moves.now) places.now }
     ensures { OnOk result (Adds (length moves.now) (in_row graph.now (vertices moves.now) place) links.old.items links.new.items) }
 {
-    let v = vertex_in_turn(graph, moves, place);
+    let v = prefetched_vertex(graph, moves, place);
     for w in graph.neighbours(v) {
         let other = place_below(places, v, *w, place);
         if other < place {

@@ -16,7 +16,7 @@ use crate::dealing::{deal_edges, deal_moves, open_groups};
 use crate::linking::{link_edges, link_rows};
 use crate::moved::find_moves;
 use crate::pieces::gather_rows;
-use crate::work::{GroupWork, clear, label, number};
+use crate::work::{GroupWork, label, number, reset};
 use crate::{Phase, PhasePlan};
 use kc_graph::{Crew, Edge, Graph, MAX_VERTICES};
 use kc_history::{Entries, Entry, Move};
@@ -65,7 +65,7 @@ fn plan_labelled(
     open_groups(alloc, phase, places, spares, &mut groups)?;
     deal_moves(moves, places, &mut groups)?;
     deal_edges(places, phase.edges, &mut quiet.edges, &mut groups)?;
-    clear(moves, places);
+    reset(moves, places);
     Ok(PhasePlan {
         quiet,
         groups: Entries::from_vec(groups),

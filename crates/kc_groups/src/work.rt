@@ -87,8 +87,8 @@ pub(crate) fn label(moves: &[Move], parents: &[u32], places: &mut Vec<u32>)
     }
 }
 
-// Gives each vertex that moves the number of vertices again, as between phases.
-pub(crate) fn clear(moves: &[Move], places: &mut Vec<u32>)
+// Resets the number of each vertex that moves to the number of vertices, so that the numbers are clean again.
+pub(crate) fn reset(moves: &[Move], places: &mut Vec<u32>)
     requires few { length places.old.items ≤ MAX_VERTICES }
     requires order { AreInOrder (length places.old.items) moves.now }
     requires none { HaveNone (length places.old.items) (vertices moves.now) places.old.items }

@@ -2,7 +2,7 @@
 use Rattle.std.proofs.Common.{ℕ, suc, ◌+◌, ◌≤◌, ◌<◌, ◌≡◌, ◌≢◌, inl, inr, Bool, true, false, cond, eqb, List, [], ◌∷◌, ◌++◌, length, get_or, take, drop, add-one, refl, ap, sym, ◌∙◌, arith}
 use Rattle.std.specs.Prelude.{count_by, filter}
 use Rattle.std.specs.List.{flat_map}
-use Rattle.std.proofs.lemmas.Bool.{cases_eq, cases_Bool, true≢false}
+use Rattle.std.proofs.lemmas.Bool.{cases_Bool, cases_eq, eq-eqb, true≢false}
 use Rattle.std.proofs.lemmas.Bool.Decides.{nat_tests}
 use Rattle.std.proofs.lemmas.List.Concat.{flat_map-cons}
 use Rattle.std.proofs.Math.Seq.{take-suc}
@@ -13,8 +13,9 @@ use Rattle.kc_graph.proofs.lemmas.Counts.{count_by-cons}
 use Rattle.kc_graph.proofs.lemmas.Numbers.{has_number_below}
 use Rattle.kc_graph.proofs.lemmas.Neighbours.{neighbours_rise, neighbours_both}
 use Rattle.kc_levels.specs.Following.{AreDistinct}
-use Rattle.kc_insert.specs.private.Telling.{times}
-use Rattle.kc_insert.proofs.Flips.{count_agree, count_less}
+use Rattle.kc_insert.specs.private.Telling.{in_range, times}
+use Rattle.kc_insert.specs.Ranges.{range_of}
+use Rattle.kc_insert.proofs.Tests.{count_agree, count_less}
 
 pub times-append : (v : ℕ) (xs ys : List ℕ) → times v (xs ++ ys) ≡ times v xs + times v ys
 times-append v [] ys = omega arith
@@ -28,10 +29,7 @@ times_none v (x ∷ xs) none = elim (cases_eq x v) [
 ]
 
 pub times_some : (v : ℕ) (xs : List ℕ) → 1 ≤ times v xs → has_number v xs ≡ true
-times_some v xs some = elim (cases_Bool (has_number v xs)) [
-  | inl there ↦ there
-  | inr none ↦ absurd (omega (arith, some, times_none v xs none))
-]
+times_some v xs some = grind (arith, nat_tests, times_none)
 
 pub times_there : (v : ℕ) (xs : List ℕ) → has_number v xs ≡ true → 1 ≤ times v xs
 times_there v [] there = absurd (true≢false (sym there))
@@ -42,21 +40,23 @@ times_there v (x ∷ xs) there = elim (cases_eq x v) [
 
 pub times-filter : (v : ℕ) (p : ℕ → Bool) (xs : List ℕ) → times v (filter p xs) ≡ cond (p v) (times v xs) 0
 times-filter v p [] = grind (arith, nat_tests)
-times-filter v p (x ∷ xs) = elim (cases_eq x v) [
-  | inl e ↦ rw e (grind (arith, nat_tests, times-filter v p xs))
-  | inr ne ↦ grind (arith, nat_tests, times-filter v p xs, ne)
-]
+times-filter v p (x ∷ xs) = grind (arith, nat_tests, times-filter v p xs)
+
+-- a vertex is in its range's part of a list as often as in the whole
+pub in_range_times : (bits v : ℕ) (xs : List ℕ) → times v (in_range bits (range_of bits v) xs) ≡ times v xs
+in_range_times bits v xs = times-filter v (λ u. eqb (range_of bits u) (range_of bits v)) xs ∙ ap (λ b. cond b (times v xs) 0) (eq-eqb (range_of bits v) (range_of bits v) refl)
+
+-- one number more at the end
+pub times_own : (v : ℕ) (xs : List ℕ) → times v (xs ++ v ∷ []) ≡ times v xs + 1
+times_own v xs = times-append v xs (v ∷ []) ∙ grind (arith, nat_tests)
+
+pub times_another : (v u : ℕ) (xs : List ℕ) → u ≢ v → times u (xs ++ v ∷ []) ≡ times u xs
+times_another v u xs ne = times-append u xs (v ∷ []) ∙ grind (arith, nat_tests, ne)
 
 -- in a rising list a number is once or not at all
 pub times_rising : (v low : ℕ) (xs : List ℕ) → RisesFrom low xs → times v xs ≡ cond (has_number v xs) 1 0
 times_rising v low [] up = refl
-times_rising v low (x ∷ xs) up = elim (cases_eq x v) [
-  | inl e ↦
-      let gone : has_number v xs ≡ false = has_number_below (suc x) v xs up.1 (omega (arith, e)) in
-      let none = times_none v xs gone in
-      rw e (grind (arith, nat_tests, none))
-  | inr ne ↦ let later = times_rising v (suc x) xs up.1 in grind (arith, nat_tests, ne, later)
-]
+times_rising v low (x ∷ xs) up = grind (arith, nat_tests, times_rising v (suc x) xs up.1, has_number_below, times_none, up.1)
 
 -- what was heard of a list up to a place
 module _ (v i : ℕ) (xs : List ℕ) (at : i < length xs) where
@@ -103,7 +103,4 @@ module _ (g : GraphShape) (graph : IsGraph g) (f : ℕ → Bool) (v : ℕ) where
 
   pub times_rows : (ss : List ℕ) → AreDistinct ss → times v (flat_map (λ s. filter f (neighbours_of s g.edges)) ss) ≡ cond (f v) (count_by (λ u. has_number u ss) (neighbours_of v g.edges)) 0
   times_rows [] once = sym (nothing (f v) _ (count_none (neighbours_of v g.edges)))
-  times_rows (s ∷ ss) once =
-      ap (times v) (flat_map-cons (λ s. filter f (neighbours_of s g.edges)) s ss)
-      ∙ times-append v (filter f (neighbours_of s g.edges)) (flat_map (λ s. filter f (neighbours_of s g.edges)) ss)
-      ∙ sum (f v) _ _ _ _ _ (one_row s) (times_rows ss once.1) (one_more s ss once.0)
+  times_rows (s ∷ ss) once = grind (arith, nat_tests, times_rows ss once.1, flat_map-cons, times-append, sum, one_row, one_more, once.1, once.0)

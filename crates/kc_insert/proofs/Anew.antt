@@ -1,15 +1,16 @@
 -- All ranges look anew at the vertices that rise, with another limit.
-use Rattle.std.proofs.Common.{ℕ, ◌-◌, ◌≤◌, ◌<◌, ◌≡◌, ◌⊎◌, inl, inr, Bool, true, false, ◌&&◌, List, [], ◌∷◌, ◌++◌, length, get_or, filter, refl, ap, sym, subst, ◌∙◌, arith}
+use Rattle.std.proofs.Common.{ℕ, ◌-◌, ◌≤◌, ◌<◌, ◌≡◌, ◌⊎◌, inl, inr, Bool, true, List, [], ◌∷◌, ◌++◌, length, get_or, filter, refl, ap, sym, subst, ◌∙◌, arith}
 use Rattle.std.specs.List.{flat_map}
-use Rattle.std.proofs.lemmas.Bool.{cases_lt, true≢false}
+use Rattle.std.proofs.lemmas.Bool.{and_from, le-leb}
 use Rattle.std.proofs.lemmas.List.{get_or_default, get_or_past}
 use Rattle.std.proofs.lemmas.List.Elements.{filter-append}
+use Rattle.std.proofs.lemmas.Bool.Decides.{nat_tests}
 use Rattle.kc_graph.specs.Numbers.{has_number}
 use Rattle.kc_graph.specs.Shape.{GraphShape, has_edge}
 use Rattle.kc_levels.specs.declared.profile.Profile.{Profile}
 use Rattle.kc_insert.specs.declared.rising.RisingLevels.{RisingLevels}
 use Rattle.kc_insert.specs.private.LevelStep.{AreInOrder, HasLimit, IsRunning, IsUnderWay}
-use Rattle.kc_insert.specs.Ranges.{Cut, IsCut, IsHeld, no_part, Part, part_at, range_of, Tell, Watch}
+use Rattle.kc_insert.specs.Ranges.{Cut, IsCut, HasVertex, no_part, Part, part_at, range_of, Tell, Watch}
 use Rattle.kc_insert.specs.private.Ranges.{AreKept, CanLookAnew, count_of, LookedAnew, LooksAnew}
 use Rattle.kc_insert.specs.private.Rising.{rises, seen}
 use Rattle.kc_insert.specs.private.Sweeping.{IsSame, sweeping_of}
@@ -19,18 +20,14 @@ use Rattle.kc_insert.proofs.Joined.{joined_same}
 use Rattle.kc_insert.proofs.Kept.{kept_at}
 use Rattle.kc_insert.proofs.Members.{filter_all}
 use Rattle.kc_insert.proofs.SweepSame.{same_paid, same_sweeping}
-use Rattle.kc_insert.proofs.Tests.{and_both, and_first, le_true}
+use Rattle.kc_insert.proofs.Tests.{and_first, and_second}
 
 filter_joined : (test : ℕ → Bool) (f : Part → List ℕ) (ps : List Part) → filter test (flat_map f ps) ≡ flat_map (λ (q : Part). filter test (f q)) ps
 filter_joined test f [] = refl
 filter_joined test f (p ∷ ps) = filter-append test (f p) (flat_map f ps) ∙ ap (λ vs. filter test (f p) ++ vs) (filter_joined test f ps)
 
 filter_again : (test : ℕ → Bool) (vs : List ℕ) → filter test (filter test vs) ≡ filter test vs
-filter_again test vs = filter_all test (filter test vs) (λ v there. second (has_number v vs) (test v) (sym (has_number-filter v test vs) ∙ there))
-  where
-    second : (a b : Bool) → a && b ≡ true → b ≡ true
-    second true b e = e
-    second false b e = absurd (true≢false (sym e))
+filter_again test vs = filter_all test (filter test vs) (λ v there. and_second (has_number v vs) (test v) (sym (has_number-filter v test vs) ∙ there))
 
 -- one range
 module _ (s : RisingLevels) (most : ℕ) (a b : Part) (looks : LooksAnew s most a b) where
@@ -46,31 +43,25 @@ module _ (s : RisingLevels) (most : ℕ) (a b : Part) (looks : LooksAnew s most 
   pub anew_count : (v : ℕ) → count_at b.watch v ≡ count_at a.watch v
   anew_count v = ap (λ cs. get_or cs (v - b.watch.first) 0) anew_counts ∙ ap (λ f. get_or a.watch.counts (v - f) 0) anew_first
 
-  pub anew_held : (v : ℕ) → IsHeld a.watch v → IsHeld b.watch v
+  pub anew_held : (v : ℕ) → HasVertex a.watch v → HasVertex b.watch v
   anew_held v was = record { from = omega (arith, was.from, anew_first); below = omega (arith, was.below, anew_first, ap (λ (cs : List ℕ). length cs) anew_counts) }
 
-  pub anew_back : (v : ℕ) → IsHeld b.watch v → IsHeld a.watch v
+  pub anew_back : (v : ℕ) → HasVertex b.watch v → HasVertex a.watch v
   anew_back v is = record { from = omega (arith, is.from, anew_first); below = omega (arith, is.below, anew_first, ap (λ (cs : List ℕ). length cs) anew_counts) }
 
   pub anew_same : {A : Type 0} (f : Part → A) → ((w : Watch) (began stay : List ℕ) → f (record a { watch = w; began = began; stay = stay }) ≡ f a) → f b ≡ f a
-  anew_same f blind = elim looks [
-    | inl it ↦ ap f it.1
-    | inr new ↦ ap f new ∙ blind (record a.watch { most = most; doubtful = filter (is_few a.watch most) (filter (rises s) a.began) }) (filter (rises s) a.began) b.stay
-  ]
+  anew_same f blind = grind (arith, nat_tests)
 
   pub anew_rising : filter (rises s) b.began ≡ filter (rises s) a.began
   anew_rising = elim looks [ inl it ↦ ap (λ (q : Part). filter (rises s) q.began) it.1 | inr new ↦ ap (λ (q : Part). filter (rises s) q.began) new ∙ filter_again (rises s) a.began ]
 
   pub anew_began : (v : ℕ) → has_number v b.began ≡ true → has_number v a.began ≡ true
-  anew_began v there = elim looks [
-    | inl it ↦ ap (λ (q : Part). has_number v q.began) (sym it.1) ∙ there
-    | inr new ↦ and_first (has_number v a.began) (rises s v) (sym (has_number-filter v (rises s) a.began) ∙ ap (λ (q : Part). has_number v q.began) (sym new) ∙ there)
-  ]
+  anew_began v there = grind (arith, nat_tests, and_first, has_number-filter)
 
   pub anew_kept : (v : ℕ) → rises s v ≡ true → has_number v a.began ≡ true → has_number v b.began ≡ true
   anew_kept v up there = elim looks [
     | inl it ↦ ap (λ (q : Part). has_number v q.began) it.1 ∙ there
-    | inr new ↦ ap (λ (q : Part). has_number v q.began) new ∙ has_number-filter v (rises s) a.began ∙ and_both (has_number v a.began) (rises s v) there up
+    | inr new ↦ ap (λ (q : Part). has_number v q.began) new ∙ has_number-filter v (rises s) a.began ∙ and_from (has_number v a.began) (rises s v) there up
   ]
 
   pub anew_few : (v : ℕ) → rises s v ≡ true → has_number v a.began ≡ true → (count_at a.watch v ≤ a.watch.most → has_number v a.watch.doubtful ≡ true) → count_at b.watch v ≤ b.watch.most → has_number v b.watch.doubtful ≡ true
@@ -78,14 +69,11 @@ module _ (s : RisingLevels) (most : ℕ) (a b : Part) (looks : LooksAnew s most 
     | inl it ↦ ap (λ (q : Part). has_number v q.watch.doubtful) it.1 ∙ was (omega (arith, low, anew_count v, anew_limit, it.0))
     | inr new ↦
         ap (λ (q : Part). has_number v q.watch.doubtful) new ∙ has_number-filter v (is_few a.watch most) (filter (rises s) a.began)
-        ∙ and_both (has_number v (filter (rises s) a.began)) (is_few a.watch most v) (has_number-filter v (rises s) a.began ∙ and_both (has_number v a.began) (rises s v) there up) (le_true (count_at a.watch v) most (omega (arith, low, anew_count v, anew_limit)))
+        ∙ and_from (has_number v (filter (rises s) a.began)) (is_few a.watch most v) (has_number-filter v (rises s) a.began ∙ and_from (has_number v a.began) (rises s v) there up) (le-leb (count_at a.watch v) most (omega (arith, low, anew_count v, anew_limit)))
   ]
 
   pub anew_inside : (v : ℕ) → has_number v b.watch.doubtful ≡ true → (has_number v a.watch.doubtful ≡ true) ⊎ (has_number v a.began ≡ true)
-  anew_inside v there = elim looks [
-    | inl it ↦ inl (ap (λ (q : Part). has_number v q.watch.doubtful) (sym it.1) ∙ there)
-    | inr new ↦ inr (and_first (has_number v a.began) (rises s v) (sym (has_number-filter v (rises s) a.began) ∙ and_first (has_number v (filter (rises s) a.began)) (is_few a.watch most v) (sym (has_number-filter v (is_few a.watch most) (filter (rises s) a.began)) ∙ ap (λ (q : Part). has_number v q.watch.doubtful) (sym new) ∙ there)))
-  ]
+  anew_inside v there = grind (arith, nat_tests, and_first, has_number-filter)
 
 -- what is asked
 pub can_look : (p : Profile) (g : GraphShape) (s : RisingLevels) (r : Cut) → length (seen s) ≡ g.vertices → AreInOrder p g s r → CanLookAnew s r.parts
@@ -93,7 +81,7 @@ can_look p g s r long order = record {
   inside = λ j v d at there.
       let is : get_or r.parts j d ≡ part_at r j = get_or_default r.parts j d no_part at in
       let held = order.kept.own j v at (ap (λ (q : Part). has_number v q.began) (sym is) ∙ there) in
-      (omega (arith, (order.shape.own j v at held).0, long), subst (λ (q : Part). IsHeld q.watch v) (sym is) held);
+      (omega (arith, (order.shape.own j v at held).0, long), subst (λ (q : Part). HasVertex q.watch v) (sym is) held);
 }
 
 -- all ranges
@@ -114,10 +102,7 @@ module _ (p : Profile) (g : GraphShape) (s : RisingLevels) (most : ℕ) (r t : C
   same_list f each = joined_same f f t.parts r.parts looked.sized each
 
   count_same : (v : ℕ) → count_of t v ≡ count_of r v
-  count_same v = ap (λ j. count_at (part_at t j).watch v) (range_same v) ∙ elim (cases_lt (range_of r.bits v) (length r.parts)) [
-    | inl at ↦ anew_count s most (part_at r (range_of r.bits v)) (part_at t (range_of r.bits v)) (looks_at (range_of r.bits v) at) v
-    | inr past ↦ ap (λ (q : Part). count_at q.watch v) (get_or_past t.parts (range_of r.bits v) no_part (omega (arith, past, looked.sized)) ∙ sym (get_or_past r.parts (range_of r.bits v) no_part past))
-  ]
+  count_same v = grind (arith, nat_tests, range_same, anew_count, looks_at, get_or_past)
 
   -- the sweep is the same
   pub looked_same : IsSame (sweeping_of s r) (sweeping_of s t)
@@ -141,7 +126,7 @@ module _ (p : Profile) (g : GraphShape) (s : RisingLevels) (most : ℕ) (r t : C
         let it = shape.vertex v h in
         record {
           place = omega (arith, it.place, range_same v, looked.sized);
-          held = subst (λ j. IsHeld (part_at t j).watch v) (sym (range_same v)) (anew_held s most (part_at r (range_of r.bits v)) (part_at t (range_of r.bits v)) (looks_at (range_of r.bits v) it.place) v it.held);
+          held = subst (λ j. HasVertex (part_at t j).watch v) (sym (range_same v)) (anew_held s most (part_at r (range_of r.bits v)) (part_at t (range_of r.bits v)) (looks_at (range_of r.bits v) it.place) v it.held);
         };
     own = λ j v at held. let it = shape.own j v (within j at) (anew_back s most (part_at r j) (part_at t j) (looks_at j (within j at)) v held) in (it.0, range_same v ∙ it.1);
     queues = λ j at. anew_same s most (part_at r j) (part_at t j) (looks_at j (within j at)) (λ (q : Part). length q.queue) (λ w us vs. refl) ∙ shape.queues j (within j at);

@@ -1,9 +1,9 @@
 -- Vertices that begin to rise, one after another, each in its range.
 use Rattle.std.proofs.Common.{ℕ, suc, ◌+◌, ◌≤◌, ◌<◌, ◌≡◌, ◌≢◌, inl, inr, Bool, true, false, cond, eqb, ◌||◌, List, [], ◌∷◌, ◌++◌, length, get_or, set, refl, ap, sym, subst, ◌∙◌, arith}
 use Rattle.std.specs.List.{flat_map}
-use Rattle.std.proofs.lemmas.Bool.{cases_Bool, cases_eq, cases_lt, true≢false}
+use Rattle.std.proofs.lemmas.Bool.{cases_Bool, cases_eq, cases_lt, eq-eqb, ne_eqb, true≢false}
 use Rattle.std.proofs.lemmas.Bool.Decides.{nat_tests}
-use Rattle.std.proofs.lemmas.List.{append-nil, length-append, length-set, get_or-set_same, get_or-set_other}
+use Rattle.std.proofs.lemmas.List.{append-nil, get_or-set_other, get_or-set_same, get_or_default, length-append, length-set}
 use Rattle.std.proofs.lemmas.List.Elements.{filter-append}
 use Rattle.std.proofs.lemmas.Grind.{same_number_lists}
 use Rattle.kc_graph.specs.Numbers.{has_number}
@@ -13,11 +13,10 @@ use Rattle.kc_insert.specs.Ranges.{no_part, Part, range_of}
 use Rattle.kc_insert.specs.private.Ranges.{CanLiftOff, LiftedOff}
 use Rattle.kc_insert.specs.private.Rising.{all_at, rises, seen}
 use Rattle.kc_insert.specs.private.Telling.{in_range, times}
-use Rattle.kc_insert.proofs.Across.{distinct_times, flat_has, length_set, of_one, times_distinct}
-use Rattle.kc_insert.proofs.Adding.{times-append, times-filter, times_some, times_there}
-use Rattle.kc_insert.proofs.Direct.{any_default}
+use Rattle.kc_insert.proofs.Joined.{distinct_times, flat_has, length_set, of_one, times_distinct}
+use Rattle.kc_insert.proofs.Adding.{in_range_times, times-append, times-filter, times_some, times_there}
 use Rattle.kc_insert.proofs.Lifting.{all_at_here, all_at_other, IsLiftingOff, length-all_at, lifting_comes, lifting_first, lifting_inside, lifting_same, lifting_stays}
-use Rattle.kc_insert.proofs.Shared.{in_range_has, in_range_times}
+use Rattle.kc_insert.proofs.Shared.{in_range_has}
 
 -- of the vertices in the list those before the place i have begun, each once and in its range; `count` counts them
 pub record IsStarting (level : ℕ) (before now : RisingLevels) (vertices : List ℕ) (bits i count : ℕ) (old new : List Part) : Type 0 where
@@ -80,7 +79,7 @@ module _ (level : ℕ) (before now : RisingLevels) (vertices : List ℕ) (bits i
     rising = λ u. rise u ∙ ap (λ b. b || eqb u item) (s.rising u) ∙ joined (rises before u) (has_number u s.lifted) (has_number u (s.lifted ++ item ∷ [])) u item (has_number-push u item s.lifted);
     sized = length-set new (range_of bits item) p ∙ s.sized;
     each = λ j d h. elim (cases_eq j (range_of bits item)) [
-      | inl e ↦ rw (e, get_or-set_same new (range_of bits item) p d starting_place) (made ∙ ap (λ (q : Part). record q { begun = q.begun ++ item ∷ [] }) (any_default new (range_of bits item) d0 d starting_place ∙ s.each (range_of bits item) d (can.place item there)) ∙ ap (λ vs. record (get_or old (range_of bits item) d) { begun = vs }) (sym (mine (range_of bits item) refl)))
+      | inl e ↦ rw (e, get_or-set_same new (range_of bits item) p d starting_place) (made ∙ ap (λ (q : Part). record q { begun = q.begun ++ item ∷ [] }) (get_or_default new (range_of bits item) d0 d starting_place ∙ s.each (range_of bits item) d (can.place item there)) ∙ ap (λ vs. record (get_or old (range_of bits item) d) { begun = vs }) (sym (mine (range_of bits item) refl)))
       | inr ne ↦ rw (get_or-set_other new (range_of bits item) j p d ne) (s.each j d h ∙ ap (λ vs. record (get_or old j d) { begun = vs }) (sym (other j ne)))
     ];
     counted = omega (arith, s.counted, length_set (λ (q : Part). q.begun) new (range_of bits item) p d0 starting_place, ap (λ (q : Part). length q.begun) made ∙ length-append (get_or new (range_of bits item) d0).begun (item ∷ []));
@@ -94,16 +93,10 @@ module _ (level : ℕ) (before now : RisingLevels) (vertices : List ℕ) (bits i
       split j = filter-append (λ u. eqb (range_of bits u) j) s.lifted (item ∷ [])
 
       mine : (j : ℕ) → j ≡ range_of bits item → in_range bits j (s.lifted ++ item ∷ []) ≡ in_range bits j s.lifted ++ item ∷ []
-      mine j e = split j ∙ ap (λ b. in_range bits j s.lifted ++ cond b (item ∷ []) []) (test (range_of bits item) e)
-        where
-          test : (k : ℕ) → j ≡ k → eqb k j ≡ true
-          test k e = grind (arith, nat_tests, e)
+      mine j e = split j ∙ ap (λ b. in_range bits j s.lifted ++ cond b (item ∷ []) []) (eq-eqb (range_of bits item) j (sym e))
 
       other : (j : ℕ) → j ≢ range_of bits item → in_range bits j (s.lifted ++ item ∷ []) ≡ in_range bits j s.lifted
-      other j ne = split j ∙ ap (λ b. in_range bits j s.lifted ++ cond b (item ∷ []) []) (test (range_of bits item) ne) ∙ append-nil (in_range bits j s.lifted)
-        where
-          test : (k : ℕ) → j ≢ k → eqb k j ≡ false
-          test k ne = grind (arith, nat_tests, ne)
+      other j ne = split j ∙ ap (λ b. in_range bits j s.lifted ++ cond b (item ∷ []) []) (ne_eqb (range_of bits item) j (λ e. ne (sym e))) ∙ append-nil (in_range bits j s.lifted)
 
 -- what the ranges from the one at place o on have of a list is each of its numbers once, if its range is among them
 times_dealt : (bits v : ℕ) (xs : List ℕ) (o : ℕ) (f : Part → List ℕ) (ps : List Part) → ((j : ℕ) (d : Part) → j < length ps → f (get_or ps j d) ≡ in_range bits (o + j) xs) → times v (flat_map f ps) ≤ times v xs

@@ -3,7 +3,7 @@ use Rattle.std.proofs.Common.{ℕ, suc, ◌+◌, ◌-◌, ◌*◌, ◌/◌, ◌�
 use Rattle.std.specs.Prelude.{count_by, filter}
 use Rattle.std.specs.List.{flat_map}
 use Rattle.std.proofs.Math.Seq.{drop-cons}
-use Rattle.std.proofs.lemmas.Bool.{cases_eq, cases_Bool, true≢false}
+use Rattle.std.proofs.lemmas.Bool.{cases_eq, true≢false}
 use Rattle.std.proofs.lemmas.Bool.Decides.{nat_tests}
 use Rattle.std.proofs.lemmas.List.{length-set, get_or-set_same, get_or-set_other, append-nil, drop_all, take_all}
 use Rattle.std.proofs.lemmas.List.Elements.{filter_more}
@@ -11,12 +11,13 @@ use Rattle.std.proofs.lemmas.Grind.{flat_map-append}
 use Rattle.kc_graph.specs.Numbers.{has_number}
 use Rattle.kc_graph.specs.Shape.{Pair, neighbours_of}
 use Rattle.kc_graph.proofs.lemmas.Numbers.{has_number-push}
+use Rattle.kc_insert.specs.declared.range.Range.TheInside.{Inside}
 use Rattle.kc_insert.specs.private.Crossing.{Crossing, above_near, is_above, next_near, count_above, with_levels, meetings_on, meetings_of, HaveMeetings, HaveBegun}
-use Rattle.kc_insert.specs.Ranges.{IsHeld, Tell, Watch}
+use Rattle.kc_insert.specs.Ranges.{HasVertex, Tell, Watch}
 use Rattle.kc_insert.specs.private.Watched.{StayWatched}
 use Rattle.kc_insert.proofs.Adding.{times_there, times_some, times_part}
 use Rattle.kc_insert.proofs.Buckets.{pushed_is, has_last}
-use Rattle.kc_insert.proofs.Looking.{passes_at, length-with_levels, vertex_at, level_at}
+use Rattle.kc_insert.proofs.Rows.{passes_at, length-with_levels, vertex_at, level_at}
 use Rattle.kc_insert.proofs.Watching.{watched_same, watched_on, count_here, count_other}
 
 -- the meetings of v with `items` are filed, but for those in `rest`
@@ -26,16 +27,10 @@ pub record AreFiled (x : List ℕ) (l v : ℕ) (items rest : List ℕ) (old new 
 
 module _ (x : List ℕ) (l v w : ℕ) (items rest : List ℕ) (old new : List (List Pair)) (s : AreFiled x l v items (w ∷ rest) old new) where
   on_yes : (k : ℕ) → l < k → get_or x w 0 ≡ k → meetings_on x l v k (w ∷ rest) ≡ (v, w) ∷ meetings_on x l v k rest
-  on_yes k above on = ap (λ b. cond b ((v, w) ∷ meetings_on x l v k rest) (meetings_on x l v k rest)) (test (get_or x w 0) on)
-    where
-      test : (a : ℕ) → a ≡ k → ltb l k && eqb a k ≡ true
-      test a e = grind (arith, nat_tests, above, e)
+  on_yes k above on = grind (arith, nat_tests)
 
   on_no : (k : ℕ) → get_or x w 0 ≢ k → meetings_on x l v k (w ∷ rest) ≡ meetings_on x l v k rest
-  on_no k off = ap (λ b. cond b ((v, w) ∷ meetings_on x l v k rest) (meetings_on x l v k rest)) (test (get_or x w 0) off)
-    where
-      test : (a : ℕ) → a ≢ k → ltb l k && eqb a k ≡ false
-      test a ne = grind (arith, nat_tests, ne)
+  on_no k off = grind (arith, nat_tests)
 
   filed_met : l < get_or x w 0 → get_or x w 0 < length new → AreFiled x l v items rest old (set new (get_or x w 0) (get_or new (get_or x w 0) [] ++ (v, w) ∷ []))
   filed_met above inside = record {
@@ -58,20 +53,9 @@ module _ (x : List ℕ) (l v w : ℕ) (items rest : List ℕ) (old new : List (L
 -- the meetings with those above the level are all meetings
 meetings_above : (x : List ℕ) (l v k : ℕ) → k < 65535 → (ws : List ℕ) → meetings_on x l v k (filter (λ w. ltb l (get_or x w 0) && ltb (get_or x w 0) 65535) ws) ≡ meetings_on x l v k ws
 meetings_above x l v k small [] = refl
-meetings_above x l v k small (w ∷ ws) = elim (cases_Bool (ltb l (get_or x w 0) && ltb (get_or x w 0) 65535)) [
-  | inl above ↦
-      ap (λ b. meetings_on x l v k (cond b (w ∷ filter (λ w. ltb l (get_or x w 0) && ltb (get_or x w 0) 65535) ws) (filter (λ w. ltb l (get_or x w 0) && ltb (get_or x w 0) 65535) ws))) above
-      ∙ ap (λ (es : List Pair). cond (ltb l k && eqb (get_or x w 0) k) ((v, w) ∷ es) es) (meetings_above x l v k small ws)
-  | inr under ↦
-      ap (λ b. meetings_on x l v k (cond b (w ∷ filter (λ w. ltb l (get_or x w 0) && ltb (get_or x w 0) 65535) ws) (filter (λ w. ltb l (get_or x w 0) && ltb (get_or x w 0) 65535) ws))) under
-      ∙ meetings_above x l v k small ws
-      ∙ ap (λ b. cond b ((v, w) ∷ meetings_on x l v k ws) (meetings_on x l v k ws)) (sym (none (get_or x w 0) under))
-]
-  where
-    none : (a : ℕ) → ltb l a && ltb a 65535 ≡ false → ltb l k && eqb a k ≡ false
-    none a e = grind (arith, nat_tests, e, small)
+meetings_above x l v k small (w ∷ ws) = grind (arith, nat_tests, meetings_above x l v k small ws)
 
--- v begins to rise, and of those in `items`, who are above the level, the first i were looked at
+-- v begins to rise, and the first i of `items`, its neighbours above the level, were looked at
 pub record IsBeginning (step : Crossing) (v i : ℕ) (items : List ℕ) (told tell : Tell) (old new : List (List Pair)) : Type 0 where
   pub telling : tell ≡ record told { all = told.all ++ filter (λ w. eqb (get_or step.levels.stored w 0) (step.level + 1)) (take i items) }
   pub filing : AreFiled step.levels.stored step.level v items (drop i items) old new
@@ -82,7 +66,7 @@ beginning_first step v items told old = record {
   filing = record { sized = refl; filed = λ k small. refl };
 }
 
--- what is found at two places that follow each other: who is above the level, and where
+-- what is found at two places that follow each other: a vertex above the level, and its level
 pub record IsFound (step : Crossing) (v i : ℕ) (found : List ℕ) : Type 0 where
   pub at : i < length (above_near step v)
   pub vertex : get_or found (2 * i) 0 ≡ get_or (above_near step v) i 0
@@ -150,18 +134,7 @@ module _ (step : Crossing) (v i : ℕ) (items : List ℕ) (told tell : Tell) (ol
 module _ (step : Crossing) (v i : ℕ) (told tell : Tell) (old new : List (List Pair)) (end : length (above_near step v) ≤ i) (small : step.level < 65534) (s : IsBeginning step v i (above_near step v) told tell old new) where
   next_of_above : (ws : List ℕ) → filter (λ w. eqb (get_or step.levels.stored w 0) (step.level + 1)) (filter (is_above step) ws) ≡ filter (λ w. eqb (get_or step.levels.stored w 0) (step.level + 1)) ws
   next_of_above [] = refl
-  next_of_above (w ∷ ws) = elim (cases_Bool (is_above step w)) [
-    | inl above ↦
-        ap (λ b. filter (λ u. eqb (get_or step.levels.stored u 0) (step.level + 1)) (cond b (w ∷ filter (is_above step) ws) (filter (is_above step) ws))) above
-        ∙ ap (λ ys. cond (eqb (get_or step.levels.stored w 0) (step.level + 1)) (w ∷ ys) ys) (next_of_above ws)
-    | inr under ↦
-        ap (λ b. filter (λ u. eqb (get_or step.levels.stored u 0) (step.level + 1)) (cond b (w ∷ filter (is_above step) ws) (filter (is_above step) ws))) under
-        ∙ next_of_above ws
-        ∙ ap (λ b. cond b (w ∷ filter (λ u. eqb (get_or step.levels.stored u 0) (step.level + 1)) ws) (filter (λ u. eqb (get_or step.levels.stored u 0) (step.level + 1)) ws)) (sym (none (get_or step.levels.stored w 0) under))
-  ]
-    where
-      none : (a : ℕ) → ltb step.level a && ltb a 65535 ≡ false → eqb a (step.level + 1) ≡ false
-      none a e = grind (arith, nat_tests, e, small)
+  next_of_above (w ∷ ws) = grind (arith, nat_tests, next_of_above ws)
 
   pub begun_telling : tell ≡ record told { all = told.all ++ next_near step v }
   begun_telling = s.telling ∙ ap (λ ys. record told { all = told.all ++ ys }) (ap (filter (λ w. eqb (get_or step.levels.stored w 0) (step.level + 1))) (take_all i (above_near step v) end) ∙ next_of_above (neighbours_of v step.graph.edges))
@@ -191,7 +164,7 @@ pub begun_none : (step : Crossing) (a : Watch) → HaveBegun step [] a a
 begun_none step a = record { watched = watched_same a; own = λ v there. absurd (true≢false (sym there)); others = λ v from none. refl }
 
 -- one more counts afresh
-pub begun_more : (step : Crossing) (xs : List ℕ) (v own : ℕ) (a b c : Watch) → ((u : ℕ) → has_number u xs ≡ true → a.first ≤ u) → IsHeld a v → HaveBegun step xs a b → own ≡ count_by (count_above step) (neighbours_of v step.graph.edges) → c.counts ≡ set b.counts (v - b.first) own → StayWatched b c → HaveBegun step (xs ++ v ∷ []) a c
+pub begun_more : (step : Crossing) (xs : List ℕ) (v own : ℕ) (a b c : Watch) → ((u : ℕ) → has_number u xs ≡ true → a.first ≤ u) → HasVertex a v → HaveBegun step xs a b → own ≡ count_by (count_above step) (neighbours_of v step.graph.edges) → c.counts ≡ set b.counts (v - b.first) own → StayWatched b c → HaveBegun step (xs ++ v ∷ []) a c
 begun_more step xs v own a b c listed was s fresh is t = record {
   watched = watched_on a b c s.watched t;
   own = λ u there. elim (cases_eq u v) [
@@ -207,15 +180,27 @@ begun_more step xs v own a b c listed was s fresh is t = record {
   ];
 }
   where
-    held : IsHeld b v
+    held : HasVertex b v
     held = record { from = omega (arith, was.from, s.watched.first); below = omega (arith, was.below, s.watched.first, s.watched.sized) }
 
     before : (u : ℕ) → has_number u (xs ++ v ∷ []) ≡ false → has_number u xs ≡ false
     before u none = grind (arith, nat_tests, sym (has_number-push u v xs) ∙ none)
 
--- who is among the first of a list is in it
+-- a vertex among the first of a list is in it
 pub listed_before : (u i : ℕ) (xs : List ℕ) → has_number u (take i xs) ≡ true → has_number u xs ≡ true
 listed_before u i xs there = times_some u xs (omega (arith, times_there u (take i xs) there, times_part u i xs))
 
-pub held_still : (a b : Watch) (v : ℕ) → IsHeld a v → StayWatched a b → IsHeld b v
+pub held_still : (a b : Watch) (v : ℕ) → HasVertex a v → StayWatched a b → HasVertex b v
 held_still a b v was s = record { from = omega (arith, was.from, s.first); below = omega (arith, was.below, s.first, s.sized) }
+
+-- the vertices of the list have begun: what they tell, the meetings to come, and what they count
+pub record AreBegun (step : Crossing) (begun : List ℕ) (a b : Tell) (old new : List (List Pair)) (v w : Watch) : Type 0 where
+  pub told : b ≡ record a { all = a.all ++ flat_map (next_near step) begun }
+  pub meetings : HaveMeetings step begun old new
+  pub counts : HaveBegun step begun v w
+
+-- all of a range is as before but its counts, its meetings, what it tells, and its room for a row
+abbrev pub KeepsRest : Inside → Inside → Type 0
+KeepsRest old new =
+    (new.queue ≡ old.queue) × (new.began.items ≡ old.began.items) × (new.risen.items ≡ old.risen.items) × (new.stay.items ≡ old.stay.items)
+    × (new.begun.items ≡ old.begun.items) × (new.steps ≡ old.steps) × (new.is_short ≡ old.is_short)

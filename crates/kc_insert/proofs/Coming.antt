@@ -1,26 +1,17 @@
 -- All ranges tell of the vertices that rise, and hear of them.
-use Rattle.std.proofs.Common.{ℕ, suc, ◌+◌, ◌≤◌, ◌<◌, ◌≡◌, inl, inr, List, [], ◌∷◌, ◌++◌, length, get_or, refl, ap, sym, subst, ◌∙◌, arith}
+use Rattle.std.proofs.Common.{ℕ, ◌+◌, ◌≤◌, ◌<◌, ◌≡◌, List, [], ◌++◌, length, get_or, ap, sym, subst, ◌∙◌, arith}
 use Rattle.std.specs.List.{flat_map}
-use Rattle.std.proofs.lemmas.Bool.{cases_Bool, cases_lt}
 use Rattle.std.proofs.lemmas.List.Sums.{count_by-le-length}
+use Rattle.std.proofs.lemmas.Bool.Decides.{nat_tests}
 use Rattle.kc_graph.specs.Numbers.{has_number}
-use Rattle.kc_graph.specs.Shape.{neighbours_of}
-use Rattle.kc_insert.specs.private.Crossing.{Crossing, count_above, met_by, next_near}
+use Rattle.kc_insert.specs.private.Crossing.{Crossing, met_by, next_near}
 use Rattle.kc_insert.specs.private.Parts.{HasRisen, HaveMet}
-use Rattle.kc_insert.specs.Ranges.{IsHeld, no_part, Part, range_of, Tell, Watch}
+use Rattle.kc_insert.specs.Ranges.{HasVertex, no_part, Part, range_of, Tell, Watch}
 use Rattle.kc_insert.specs.private.Sharing.{AllRisen, AreFew, AreTold, CanMeet, CanRiseAll, HearMore, rise_told, told_all}
 use Rattle.kc_insert.specs.private.Telling.{in_range, times}
 use Rattle.kc_insert.specs.private.Watched.{count_at}
 use Rattle.kc_insert.proofs.Beginning.{held_still}
-
--- what all told is what each tells
-tells_are : (f : Part → List ℕ) (parts : List Part) (told : List Tell) → length told ≡ length parts → ((i : ℕ) (d : Tell) (e : Part) → i < length parts → (get_or told i d).all ≡ f (get_or parts i e)) → told_all told ≡ flat_map f parts
-tells_are f [] [] same each = refl
-tells_are f [] (t ∷ ts) same each = absurd (omega (arith, same))
-tells_are f (p ∷ ps) [] same each = absurd (omega (arith, same))
-tells_are f (p ∷ ps) (t ∷ ts) same each =
-    ap (λ (ys : List ℕ). ys ++ told_all ts) (each 0 t p (omega arith))
-    ∙ ap (λ (ys : List ℕ). f p ++ ys) (tells_are f ps ts (omega (arith, same)) (λ i d e h. each (suc i) d e (omega (arith, h))))
+use Rattle.kc_insert.proofs.Summing.{lists_told, tells_are}
 
 module _ (step : Crossing) (p0 p1 p2 : List Part) (t0 t1 : List Tell) (can : CanRiseAll step p0 t0) (long1 : length p1 ≡ length p0) (long2 : length p2 ≡ length p1) (long3 : length t1 ≡ length t0) (risen : (i : ℕ) (d : Part) → i < length p0 → HasRisen step (get_or p0 i d) (get_or p1 i d)) (kept : (i : ℕ) (d : Part) (e : Tell) → i < length p1 → get_or p2 i d ≡ record (get_or p1 i d) { tell = get_or t0 i e }) (tells : (i : ℕ) (d : Part) (e : Tell) → i < length p1 → get_or t1 i e ≡ (get_or p1 i d).tell) where
   abbrev no_tell : Tell
@@ -30,43 +21,25 @@ module _ (step : Crossing) (p0 p1 p2 : List Part) (t0 t1 : List Tell) (can : Can
   told_is = tells_are (λ (p : Part). met_by step (get_or p.meetings (step.level + 1) []) ++ flat_map (next_near step) p.begun) p0 t1 (long3 ∙ can.told) (λ i d e h. ap (λ (t : Tell). t.all) (tells i e d (omega (arith, h, long1))) ∙ (risen i e h).told)
 
   pub are_told : AreTold step.bits step.is_dealt (length p2) t1
-  are_told = record {
-    sized = λ i t h. ap (λ (u : Tell). length u.lists) (tells i no_part t (within i h)) ∙ (risen i no_part (inside i h)).lists ∙ can.lists i no_part (inside i h) ∙ sym (long2 ∙ long1);
-    dealt = λ is i t h k at.
-        ap (λ (u : Tell). get_or u.lists k []) (tells i no_part t (within i h))
-        ∙ ((risen i no_part (inside i h)).dealt is).each k (omega (arith, at, long1, long2, can.lists i no_part (inside i h)))
-        ∙ ap (λ (u : Tell). in_range step.bits k u.all) (sym (tells i no_part t (within i h)));
-  }
+  are_told = lists_told step.bits (length p2) step.is_dealt p1 t1 (long3 ∙ can.told ∙ sym long1) tells
+      (λ i h. (risen i no_part (inside i h)).lists ∙ can.lists i no_part (inside i h) ∙ sym (long2 ∙ long1))
+      (λ is i h k at. ((risen i no_part (inside i h)).dealt is).each k (omega (arith, at, long1, long2, can.lists i no_part (inside i h))))
     where
-      inside : (i : ℕ) → i < length t1 → i < length p0
-      inside i h = omega (arith, h, long3, can.told)
-
-      within : (i : ℕ) → i < length t1 → i < length p1
-      within i h = omega (arith, h, long3, can.told, long1)
+      inside : (i : ℕ) → i < length p1 → i < length p0
+      inside i h = omega (arith, h, long1)
 
   watch_is : (j : ℕ) (d : Part) → j < length p0 → (get_or p2 j d).watch ≡ (get_or p1 j d).watch
   watch_is j d h = ap (λ (p : Part). p.watch) (kept j d no_tell (omega (arith, h, long1)))
 
   -- a count is at most that of before or the number of neighbours
   still_small : (j : ℕ) (d : Part) (v : ℕ) → j < length p0 → count_at (get_or p1 j d).watch v ≤ 16777216
-  still_small j d v h = elim (cases_lt v (get_or p0 j d).watch.first) [
-    | inr from ↦ above v from
-    | inl below ↦
-        let same : count_at (get_or p1 j d).watch v ≡ count_at (get_or p1 j d).watch (get_or p0 j d).watch.first = ap (λ k. get_or (get_or p1 j d).watch.counts k 0) (omega (arith, below, (risen j d h).risen.watched.first)) in
-        omega (arith, same, above (get_or p0 j d).watch.first (omega arith))
-  ]
-    where
-      above : (u : ℕ) → (get_or p0 j d).watch.first ≤ u → count_at (get_or p1 j d).watch u ≤ 16777216
-      above u from = elim (cases_Bool (has_number u (get_or p0 j d).begun)) [
-        | inl there ↦ omega (arith, (risen j d h).risen.own u there, count_by-le-length (count_above step) (neighbours_of u step.graph.edges), can.degree u)
-        | inr none ↦ omega (arith, (risen j d h).risen.others u from none, can.small j d u h)
-      ]
+  still_small j d v h = grind (arith, nat_tests, count_by-le-length, can.degree, can.small)
 
   pub can_meet : CanMeet step.bits (step.level + 1) (told_all t1) p2
   can_meet = record {
     held = λ v d there.
         let was = can.held v d (ap (has_number v) (sym told_is) ∙ there) in
-        (omega (arith, was.0, long1, long2), subst (λ (w : Watch). IsHeld w v) (sym (watch_is (range_of step.bits v) d was.0)) (held_still _ _ v was.1 (risen (range_of step.bits v) d was.0).risen.watched));
+        (omega (arith, was.0, long1, long2), subst (λ (w : Watch). HasVertex w v) (sym (watch_is (range_of step.bits v) d was.0)) (held_still _ _ v was.1 (risen (range_of step.bits v) d was.0).risen.watched));
     small = λ v d there.
         let was = can.held v d (ap (has_number v) (sym told_is) ∙ there) in
         omega (arith, ap (times v) told_is, can.few v, still_small (range_of step.bits v) d v was.0, ap (λ (w : Watch). count_at w v) (watch_is (range_of step.bits v) d was.0));
@@ -77,9 +50,7 @@ module _ (step : Crossing) (p0 p1 p2 : List Part) (t0 t1 : List Tell) (can : Can
   }
 
   pub are_few : AreFew p2
-  are_few j d v h =
-      let at : j < length p0 = omega (arith, h, long1, long2) in
-      omega (arith, still_small j d v at, ap (λ (w : Watch). count_at w v) (watch_is j d at))
+  are_few j d v h = grind (arith, nat_tests, still_small, watch_is)
 
   pub all_risen : (most : ℕ) (p3 : List Part) → HearMore step.bits (step.level + 1) most (told_all t1) p2 p3 → AllRisen step most p0 p3
   all_risen most p3 s = record {

@@ -2,16 +2,15 @@
 use Rattle.std.proofs.Common.{ℕ, ◌+◌, ◌-◌, ◌≤◌, ◌<◌, ◌≡◌, ◌≢◌, inl, inr, false, List, length, get_or, set, take, refl, ap, sym, subst, ◌∙◌, arith}
 use Rattle.std.specs.List.{All}
 use Rattle.std.proofs.lemmas.Bool.{cases_eq, cases_lt}
-use Rattle.std.proofs.lemmas.List.{get_or-set_same, get_or-set_other, get_or_past, length-set, take_more, take_all}
+use Rattle.std.proofs.lemmas.List.{get_or-set_other, get_or-set_same, get_or_default, get_or_past, length-set, take_all, take_more}
 use Rattle.std.proofs.lemmas.List.Elements.{All-push}
 use Rattle.kc_graph.specs.Numbers.{has_number}
 use Rattle.kc_graph.proofs.lemmas.Numbers.{has_number_nowhere}
 use Rattle.kc_levels.proofs.lemmas.Writes.{copied_first, copied_then}
 use Rattle.kc_insert.specs.private.Filed.{AreCopied}
-use Rattle.kc_insert.specs.Ranges.{counts_of, Cut, IsHeld, IsIn, no_part, Part, part_of, range_of}
+use Rattle.kc_insert.specs.Ranges.{counts_of, Cut, HasVertex, IsIn, no_part, Part, part_of, range_of}
 use Rattle.kc_insert.specs.private.Ranges.{count_of, IsSameCut}
 use Rattle.kc_insert.specs.private.Watched.{count_at}
-use Rattle.kc_insert.proofs.Direct.{any_default}
 use Rattle.kc_insert.proofs.Filled.{cut_same, same_cut, same_on}
 use Rattle.kc_insert.proofs.Flat.{count_is, length_counts}
 use Rattle.kc_insert.proofs.Watching.{count_here, count_other}
@@ -20,7 +19,7 @@ use Rattle.kc_insert.proofs.Watching.{count_here, count_other}
 pub in_same : (old new : Cut) (v : ℕ) → IsSameCut old new → IsIn old v → IsIn new v
 in_same old new v t it = record {
   place = omega (arith, range, t.sized, it.place);
-  held = subst (λ k. IsHeld (get_or new.parts k no_part).watch v) (sym range) (record {
+  held = subst (λ k. HasVertex (get_or new.parts k no_part).watch v) (sym range) (record {
     from = omega (arith, it.held.from, first);
     below = omega (arith, it.held.below, first, t.counts (range_of old.bits v) no_part it.place);
   });
@@ -54,7 +53,7 @@ module _ (fresh : List ℕ) (v own : ℕ) (old new : Cut) (it : IsIn old v) (is 
   at_own d = ap (λ (r : Cut). get_or r.parts (range_of old.bits v) d) made ∙ get_or-set_same old.parts (range_of old.bits v) part d it.place
 
   was : (d : Part) → get_or old.parts (range_of old.bits v) d ≡ part_of old v
-  was d = any_default old.parts (range_of old.bits v) d no_part it.place
+  was d = get_or_default old.parts (range_of old.bits v) d no_part it.place
 
   same_one : IsSameCut old new
   same_one = record {
@@ -102,7 +101,7 @@ module _ (fresh : List ℕ) (v own : ℕ) (old new : Cut) (it : IsIn old v) (is 
       here : (u : ℕ) → u ≡ v → count_at (get_or new.parts (range_of old.bits u) no_part).watch u ≡ own
       here u e = ap (λ k. count_at (get_or new.parts (range_of old.bits k) no_part).watch k) e ∙ ap (λ (p : Part). count_at p.watch v) (at_own no_part) ∙ count_here (part_of old v).watch part.watch v own it.held refl refl
 
-      other : (u : ℕ) → IsHeld (part_of old u).watch u → u ≢ v → count_at (get_or new.parts (range_of old.bits u) no_part).watch u ≡ count_of old u
+      other : (u : ℕ) → HasVertex (part_of old u).watch u → u ≢ v → count_at (get_or new.parts (range_of old.bits u) no_part).watch u ≡ count_of old u
       other u held ne = elim (cases_eq (range_of old.bits u) (range_of old.bits v)) [
         | inr off ↦ ap (λ (p : Part). count_at p.watch u) (at_other (range_of old.bits u) no_part off)
         | inl e ↦

@@ -1,22 +1,17 @@
 -- Vertices of all ranges hear, one after another.
-use Rattle.std.proofs.Common.{ℕ, suc, zero, ◌+◌, ◌-◌, ◌≤◌, ◌<◌, ◌≡◌, ◌≢◌, inl, inr, true, false, cond, eqb, List, [], ◌∷◌, ◌++◌, length, get_or, set, take, refl, ap, ◌∙◌, arith, append-nil}
-use Rattle.std.proofs.lemmas.Bool.{cases_eq}
+use Rattle.std.proofs.Common.{sym, ℕ, ◌+◌, ◌-◌, ◌≤◌, ◌<◌, ◌≡◌, ◌≢◌, inl, inr, cond, eqb, List, [], ◌∷◌, ◌++◌, length, get_or, set, take, refl, ap, ◌∙◌, arith, append-nil}
+use Rattle.std.proofs.lemmas.Bool.{cases_eq, eq-eqb, ne_eqb}
 use Rattle.std.proofs.lemmas.Bool.Decides.{nat_tests}
-use Rattle.std.proofs.lemmas.List.{length-set, get_or-set_same, get_or-set_other}
+use Rattle.std.proofs.lemmas.List.{get_or-set_other, get_or-set_same, get_or_default, length-set}
 use Rattle.std.proofs.lemmas.List.Elements.{filter_more}
 use Rattle.kc_insert.specs.private.Parts.{HasHeardLess, HaveMet}
-use Rattle.kc_insert.specs.Ranges.{IsHeld, Part, range_of, Watch}
+use Rattle.kc_insert.specs.Ranges.{HasVertex, Part, range_of, Watch}
 use Rattle.kc_insert.specs.private.Sharing.{HearLess, HearMore}
 use Rattle.kc_insert.specs.private.Telling.{in_range, times}
 use Rattle.kc_insert.specs.private.Watched.{count_at, StayWatched}
-use Rattle.kc_insert.proofs.Adding.{times-append, times-filter, times_more, times_part}
+use Rattle.kc_insert.proofs.Adding.{in_range_times, times_another, times_more, times_own, times_part}
 use Rattle.kc_insert.proofs.Meeting.{met_on}
 use Rattle.kc_insert.proofs.Watching.{watched_same, watched_on, count_here, count_other}
-
-pub any_default : {A : Type 0} (xs : List A) (k : ℕ) (d e : A) → k < length xs → get_or xs k d ≡ get_or xs k e
-any_default [] k d e h = absurd (omega arith)
-any_default (x ∷ xs) zero d e h = refl
-any_default (x ∷ xs) (suc k) d e h = any_default xs k d e (omega arith)
 
 -- a range hears what is in the list of its vertices, up to a place
 module _ (bits i : ℕ) (xs : List ℕ) (at : i < length xs) where
@@ -27,32 +22,23 @@ module _ (bits i : ℕ) (xs : List ℕ) (at : i < length xs) where
   more j = filter_more (λ v. eqb (range_of bits v) j) xs i 0 at
 
   pub in_here : in_range bits (range_of bits item) (take (i + 1) xs) ≡ in_range bits (range_of bits item) (take i xs) ++ item ∷ []
-  in_here = more (range_of bits item) ∙ ap (λ b. in_range bits (range_of bits item) (take i xs) ++ cond b (item ∷ []) []) (same (range_of bits item))
-    where
-      same : (j : ℕ) → eqb j j ≡ true
-      same j = grind (arith, nat_tests)
+  in_here = more (range_of bits item) ∙ ap (λ b. in_range bits (range_of bits item) (take i xs) ++ cond b (item ∷ []) []) (eq-eqb (range_of bits item) (range_of bits item) refl)
 
   pub in_other : (j : ℕ) → j ≢ range_of bits item → in_range bits j (take (i + 1) xs) ≡ in_range bits j (take i xs)
-  in_other j ne = more j ∙ ap (λ b. in_range bits j (take i xs) ++ cond b (item ∷ []) []) (other (range_of bits item) ne) ∙ append-nil (in_range bits j (take i xs))
-    where
-      other : (k : ℕ) → j ≢ k → eqb k j ≡ false
-      other k ne = grind (arith, nat_tests, ne)
+  in_other j ne = more j ∙ ap (λ b. in_range bits j (take i xs) ++ cond b (item ∷ []) []) (ne_eqb (range_of bits item) j (λ e. ne (sym e))) ∙ append-nil (in_range bits j (take i xs))
 
   -- the vertex at the place is in the list of its range as often as in the whole
   pub in_times : times item (in_range bits (range_of bits item) (take i xs)) + 1 ≤ times item xs
   in_times =
       let one : times item (take (i + 1) xs) ≡ times item (take i xs) + 1 = times_more item i xs at ∙ grind (arith, nat_tests) in
-      omega (arith, one, times_part item (i + 1) xs, times-filter item (λ v. eqb (range_of bits v) (range_of bits item)) (take i xs) ∙ whole (range_of bits item) (times item (take i xs)))
-    where
-      whole : (j k : ℕ) → cond (eqb j j) k 0 ≡ k
-      whole j k = grind (arith, nat_tests)
+      omega (arith, one, times_part item (i + 1) xs, in_range_times bits item (take i xs))
 
 pub heard_none : (a : Part) → HasHeardLess [] a a
 heard_none a = record { part = refl; watched = watched_same a.watch; less = λ v from. omega arith }
 
 -- v counts one less
-module _ (xs : List ℕ) (v : ℕ) (a b : Part) (was : IsHeld a.watch v) (s : HasHeardLess xs a b) where
-  pub heard_held : IsHeld b.watch v
+module _ (xs : List ℕ) (v : ℕ) (a b : Part) (was : HasVertex a.watch v) (s : HasHeardLess xs a b) where
+  pub heard_held : HasVertex b.watch v
   heard_held = record { from = omega (arith, was.from, s.watched.first); below = omega (arith, was.below, s.watched.first, s.watched.sized) }
 
   pub heard_some : (k : ℕ) → times v xs + 1 ≤ k → k ≤ count_at a.watch v → 1 ≤ count_at b.watch v
@@ -63,16 +49,10 @@ module _ (xs : List ℕ) (v : ℕ) (a b : Part) (was : IsHeld a.watch v) (s : Ha
     part = ap (λ (p : Part). record p { watch = w }) s.part;
     watched = watched_on a.watch b.watch w s.watched t;
     less = λ u from. elim (cases_eq u v) [
-      | inl e ↦ rw e (omega (arith, count_here b.watch w v (count_at b.watch v - 1) heard_held t.first counts, some, one, s.less v was.from))
-      | inr ne ↦ omega (arith, count_other b.watch w v (count_at b.watch v - 1) heard_held t.first counts u (omega (arith, from, s.watched.first)) ne, s.less u from, none u ne)
+      | inl e ↦ rw e (omega (arith, count_here b.watch w v (count_at b.watch v - 1) heard_held t.first counts, some, times_own v xs, s.less v was.from))
+      | inr ne ↦ omega (arith, count_other b.watch w v (count_at b.watch v - 1) heard_held t.first counts u (omega (arith, from, s.watched.first)) ne, s.less u from, times_another v u xs ne)
     ];
   })
-    where
-      one : times v (xs ++ v ∷ []) ≡ times v xs + 1
-      one = times-append v xs (v ∷ []) ∙ grind (arith, nat_tests)
-
-      none : (u : ℕ) → u ≢ v → times u (xs ++ v ∷ []) ≡ times u xs
-      none u ne = times-append u xs (v ∷ []) ∙ grind (arith, nat_tests, ne)
 
 -- at the place i of the list the range of the vertex there hears
 module _ (bits i : ℕ) (xs : List ℕ) (old new : List Part) (at : i < length xs) (inside : range_of bits (get_or xs i 0) < length old) (s : HearLess bits (take i xs) old new) where
@@ -83,7 +63,7 @@ module _ (bits i : ℕ) (xs : List ℕ) (old new : List Part) (at : i < length x
   hear_next e0 p one = record {
     sized = length-set new place p ∙ s.sized;
     each = λ j d h. elim (cases_eq j place) [
-      | inl e ↦ rw (e, get_or-set_same new place p d (omega (arith, inside, s.sized)), in_here bits i xs at) (rw (any_default old place d e0 inside) one)
+      | inl e ↦ rw (e, get_or-set_same new place p d (omega (arith, inside, s.sized)), in_here bits i xs at) (rw (get_or_default old place d e0 inside) one)
       | inr ne ↦ rw (get_or-set_other new place j p d ne, in_other bits i xs at j ne) (s.each j d h)
     ];
   }
@@ -94,14 +74,14 @@ module _ (bits level most i : ℕ) (xs : List ℕ) (old new : List Part) (at : i
   meet_next e0 p one = record {
     sized = length-set new (range_of bits (get_or xs i 0)) p ∙ s.sized;
     each = λ j d h. elim (cases_eq j (range_of bits (get_or xs i 0))) [
-      | inl e ↦ rw (e, get_or-set_same new (range_of bits (get_or xs i 0)) p d (omega (arith, inside, s.sized)), in_here bits i xs at) (met_on level most _ (get_or xs i 0 ∷ []) (get_or old (range_of bits (get_or xs i 0)) d) (get_or new (range_of bits (get_or xs i 0)) d) p (s.each (range_of bits (get_or xs i 0)) d inside) (rw (any_default new (range_of bits (get_or xs i 0)) d e0 (omega (arith, inside, s.sized))) one))
+      | inl e ↦ rw (e, get_or-set_same new (range_of bits (get_or xs i 0)) p d (omega (arith, inside, s.sized)), in_here bits i xs at) (met_on level most _ (get_or xs i 0 ∷ []) (get_or old (range_of bits (get_or xs i 0)) d) (get_or new (range_of bits (get_or xs i 0)) d) p (s.each (range_of bits (get_or xs i 0)) d inside) (rw (get_or_default new (range_of bits (get_or xs i 0)) d e0 (omega (arith, inside, s.sized))) one))
       | inr ne ↦ rw (get_or-set_other new (range_of bits (get_or xs i 0)) j p d ne, in_other bits i xs at j ne) (s.each j d h)
     ];
   }
 
 -- v is of the range still, and its count has room
-module _ (level most : ℕ) (xs : List ℕ) (v : ℕ) (a b : Part) (was : IsHeld a.watch v) (s : HaveMet level most xs a b) where
-  pub met_still : IsHeld b.watch v
+module _ (level most : ℕ) (xs : List ℕ) (v : ℕ) (a b : Part) (was : HasVertex a.watch v) (s : HaveMet level most xs a b) where
+  pub met_still : HasVertex b.watch v
   met_still = record { from = omega (arith, was.from, begun); below = omega (arith, was.below, begun, s.sized) }
     where
       begun : b.watch.first ≡ a.watch.first

@@ -13,23 +13,15 @@ use Rattle.kc_insert.specs.private.Rising.{all_at}
 
 pub effort_none : (g : GraphShape) (x : List ℕ) (n : ℕ) → effort g x x n ≡ 0
 effort_none g x zero = refl
-effort_none g x (suc n) = rw (effort_none g x n) (plain (get_or x n 0) (3 * length (neighbours_of n g.edges) + 1))
-  where
-    plain : (k c : ℕ) → 0 + (k - k) * c ≡ 0
-    plain k c = grind arith
+effort_none g x (suc n) = grind (arith, nat_tests, effort_none g x n)
 
 pub effort_more : (g : GraphShape) (x y z : List ℕ) (n : ℕ) → ((v : ℕ) → v < n → get_or y v 0 ≤ get_or z v 0) → effort g x y n ≤ effort g x z n
 effort_more g x y z zero more = omega arith
-effort_more g x y z (suc n) more =
-    let before = effort_more g x y z n (λ v h. more v (omega (arith, h))) in
-    let here : (get_or y n 0 - get_or x n 0) * (3 * length (neighbours_of n g.edges) + 1) ≤ (get_or z n 0 - get_or x n 0) * (3 * length (neighbours_of n g.edges) + 1) = mul-le-mul_right (3 * length (neighbours_of n g.edges) + 1) (omega (arith, more n (omega arith))) in
-    omega (arith, before, here)
+effort_more g x y z (suc n) more = grind (arith, nat_tests, effort_more g x y z n (λ v h. more v (omega (arith, h))), mul-le-mul_right)
 
 effort_other : (g : GraphShape) (x y : List ℕ) (v l n : ℕ) → n ≤ v → effort g x (set y v l) n ≡ effort g x y n
 effort_other g x y v l zero le = refl
-effort_other g x y v l (suc n) le =
-    ap (λ k. effort g x (set y v l) n + (k - get_or x n 0) * (3 * length (neighbours_of n g.edges) + 1)) (get_or-set_other y v n l 0 (omega arith))
-    ∙ ap (λ m. m + (get_or y n 0 - get_or x n 0) * (3 * length (neighbours_of n g.edges) + 1)) (effort_other g x y v l n (omega arith))
+effort_other g x y v l (suc n) le = grind (arith, nat_tests, effort_other g x y v l n (omega arith), get_or-set_other)
 
 -- what one rise adds
 effort_rise : (g : GraphShape) (x y : List ℕ) (v n : ℕ) → v < length y → v < n → get_or x v 0 ≤ get_or y v 0 → effort g x (set y v (get_or y v 0 + 1)) n ≡ effort g x y n + (3 * length (neighbours_of v g.edges) + 1)

@@ -3,19 +3,18 @@ use Rattle.std.proofs.Common.{ℕ, ◌+◌, ◌-◌, ◌≤◌, ◌<◌, ◌≡�
 use Rattle.std.specs.List.{All}
 use Rattle.std.proofs.lemmas.Bool.{cases_Bool, cases_eq, cases_lt}
 use Rattle.std.proofs.lemmas.Bool.Decides.{nat_tests}
-use Rattle.std.proofs.lemmas.List.{get_or-set_same, get_or-set_other, get_or_past, length-set}
+use Rattle.std.proofs.lemmas.List.{get_or-set_other, get_or-set_same, get_or_default, get_or_past, length-set}
 use Rattle.kc_graph.specs.Numbers.{has_number}
 use Rattle.kc_levels.specs.declared.profile.Profile.{Profile}
 use Rattle.kc_levels.specs.Thresholds.{high, group_of, top_level}
 use Rattle.kc_levels.specs.private.Following.{IsCopied}
-use Rattle.kc_levels.proofs.lemmas.Writes.{copied_all, copied_first, copied_next, copied_then}
+use Rattle.kc_levels.proofs.lemmas.Writes.{copied_all, copied_next, copied_then}
 use Rattle.kc_insert.specs.private.Filed.{CanFile, CanFollow, HasFiled, HasFollowed, HaveCounted, IsFiling}
-use Rattle.kc_insert.specs.Ranges.{counts_of, Cut, IsCut, IsHeld, no_part, Part, part_of, range_of, Tell, waits, Watch}
+use Rattle.kc_insert.specs.Ranges.{counts_of, Cut, IsCut, HasVertex, no_part, Part, part_of, range_of, Tell, waits, Watch}
 use Rattle.kc_insert.specs.private.Ranges.{IsSameCut}
 use Rattle.kc_insert.specs.private.Watched.{count_at}
-use Rattle.kc_insert.proofs.Across.{flat_has, of_one}
+use Rattle.kc_insert.proofs.Joined.{flat_has, of_one}
 use Rattle.kc_insert.proofs.Buckets.{has_last, now_there, placed, pushed_is, still_there}
-use Rattle.kc_insert.proofs.Direct.{any_default}
 use Rattle.kc_insert.proofs.Flat.{count_is, length_counts}
 use Rattle.kc_insert.proofs.Watching.{count_here, count_other}
 
@@ -30,7 +29,7 @@ pub cut_same : (n levels : ℕ) (old new : Cut) → IsCut n levels old → IsSam
 cut_same n levels old new s t = record {
   vertex = λ v h. let it = s.vertex v h in record {
     place = omega (arith, range v, t.sized, it.place);
-    held = subst (λ k. IsHeld (get_or new.parts k no_part).watch v) (sym (range v)) (held_on (range_of old.bits v) v it.place it.held);
+    held = subst (λ k. HasVertex (get_or new.parts k no_part).watch v) (sym (range v)) (held_on (range_of old.bits v) v it.place it.held);
   };
   own = λ j v h held.
       let at : j < length old.parts = omega (arith, h, t.sized) in
@@ -48,7 +47,7 @@ cut_same n levels old new s t = record {
     first : (j : ℕ) → j < length old.parts → (get_or new.parts j no_part).watch.first ≡ (get_or old.parts j no_part).watch.first
     first j at = ap (λ (p : Part). p.watch.first) (t.each j no_part at)
 
-    held_on : (j v : ℕ) → j < length old.parts → IsHeld (get_or old.parts j no_part).watch v → IsHeld (get_or new.parts j no_part).watch v
+    held_on : (j v : ℕ) → j < length old.parts → HasVertex (get_or old.parts j no_part).watch v → HasVertex (get_or new.parts j no_part).watch v
     held_on j v at held = record { from = omega (arith, held.from, first j at); below = omega (arith, held.below, first j at, t.counts j no_part at) }
 
 pub same_cut : (a : Cut) → IsSameCut a a
@@ -68,13 +67,13 @@ module _ (p : Profile) (n : ℕ) (y fresh : List ℕ) (spared : ℕ → Type 0) 
   -- the vertices of the range that are not spared count afresh, and wait if they count otherwise than before and too many
   pub record IsFiledPart (old new : Part) : Type 0 where
     pub same : IsSamePart old new
-    pub counts : (v : ℕ) → IsHeld old.watch v → (count_at new.watch v ≡ get_or fresh v 0) ⊎ ((count_at new.watch v ≡ count_at old.watch v) × spared v)
+    pub counts : (v : ℕ) → HasVertex old.watch v → (count_at new.watch v ≡ get_or fresh v 0) ⊎ ((count_at new.watch v ≡ count_at old.watch v) × spared v)
     pub still : (k u : ℕ) → has_number u (get_or old.queue k []) ≡ true → has_number u (get_or new.queue k []) ≡ true
-    pub only : (k u : ℕ) → has_number u (get_or new.queue k []) ≡ true → (has_number u (get_or old.queue k []) ≡ true) ⊎ (IsHeld old.watch u × (get_or y u 0 ≡ k))
-    pub found : (u : ℕ) → IsHeld old.watch u → count_at old.watch u ≢ count_at new.watch u → high p (group_of p n (get_or y u 0)) < get_or fresh u 0 → has_number u (get_or new.queue (get_or y u 0) []) ≡ true
+    pub only : (k u : ℕ) → has_number u (get_or new.queue k []) ≡ true → (has_number u (get_or old.queue k []) ≡ true) ⊎ (HasVertex old.watch u × (get_or y u 0 ≡ k))
+    pub found : (u : ℕ) → HasVertex old.watch u → count_at old.watch u ≢ count_at new.watch u → high p (group_of p n (get_or y u 0)) < get_or fresh u 0 → has_number u (get_or new.queue (get_or y u 0) []) ≡ true
 
   -- a range that isn't touched
-  pub filed_none : (a : Part) → ((v : ℕ) → IsHeld a.watch v → spared v) → IsFiledPart a a
+  pub filed_none : (a : Part) → ((v : ℕ) → HasVertex a.watch v → spared v) → IsFiledPart a a
   filed_none a rest = record {
     same = record { part = refl; sized = refl; buckets = refl };
     counts = λ v held. inr (refl, rest v held);
@@ -164,7 +163,7 @@ module _ (p : Profile) (n : ℕ) (y fresh : List ℕ) (spared : ℕ → Type 0) 
 
 -- one vertex
 module _ (p : Profile) (n : ℕ) (y fresh : List ℕ) (v : ℕ) where
-  pub filed_one : (a b : Part) (w : Watch) (queue : List (List ℕ)) → IsHeld a.watch v → get_or y v 0 < length a.queue → b ≡ record a { watch = w; queue = queue } → HasFollowed p n y v (get_or fresh v 0) a.watch w a.queue queue → IsFiledPart p n y fresh (λ u. u ≢ v) a b
+  pub filed_one : (a b : Part) (w : Watch) (queue : List (List ℕ)) → HasVertex a.watch v → get_or y v 0 < length a.queue → b ≡ record a { watch = w; queue = queue } → HasFollowed p n y v (get_or fresh v 0) a.watch w a.queue queue → IsFiledPart p n y fresh (λ u. u ≢ v) a b
   filed_one a b w queue held room is s = rw is (record {
     same = record {
       part = ap (λ (x : Watch). record a { watch = x; queue = queue }) (s.counts ∙ ap (λ ks. record a.watch { counts = ks }) (sym counts_are));
@@ -184,7 +183,7 @@ module _ (p : Profile) (n : ℕ) (y fresh : List ℕ) (v : ℕ) where
     ];
     only = λ k u there. elim (cases_Bool test) [
       | inr no_ ↦ inl (rw (passes no_) at there)
-      | inl yes_ ↦ placed a.queue (get_or y v 0) k (get_or a.queue (get_or y v 0) [] ++ v ∷ []) room (λ xs. has_number u xs ≡ true → (has_number u (get_or a.queue k []) ≡ true) ⊎ (IsHeld a.watch u × (get_or y u 0 ≡ k)))
+      | inl yes_ ↦ placed a.queue (get_or y v 0) k (get_or a.queue (get_or y v 0) [] ++ v ∷ []) room (λ xs. has_number u xs ≡ true → (has_number u (get_or a.queue k []) ≡ true) ⊎ (HasVertex a.watch u × (get_or y u 0 ≡ k)))
           (λ here in_it. elim (pushed_is u v (get_or a.queue (get_or y v 0) []) in_it) [
             | inl e ↦ inr (rw e held, rw e (sym here))
             | inr was ↦ inl (rw here was)
@@ -219,24 +218,21 @@ module _ (p : Profile) (n : ℕ) (y fresh : List ℕ) (v : ℕ) where
   pub end_filed : (old new : Cut) (b : Part) (w : Watch) (queue : List (List ℕ)) (d0 : Part) → CanFile p n y fresh old → v < length fresh → new ≡ record old { parts = set old.parts (range_of old.bits v) b } → b ≡ record (get_or old.parts (range_of old.bits v) d0) { watch = w; queue = queue } → HasFollowed p n y v (get_or fresh v 0) (get_or old.parts (range_of old.bits v) d0).watch w (get_or old.parts (range_of old.bits v) d0).queue queue → HaveCounted p n y fresh (λ u. u ≢ v) old new
   end_filed old new b w queue d0 can h is made s = have_counted p n y fresh (λ u. u ≢ v) old new can (ap (λ (r : Cut). r.bits) is) (ap (λ (r : Cut). r.told) is) (ap (λ (r : Cut). length r.parts) is ∙ length-set old.parts (range_of old.bits v) b) (λ j d at.
       subst (λ (r : Cut). IsFiledPart p n y fresh (λ u. u ≢ v) (get_or old.parts j d) (get_or r.parts j d)) (sym is) (elim (cases_eq j (range_of old.bits v)) [
-        | inl e ↦ rw (e, get_or-set_same old.parts (range_of old.bits v) b d place) (subst (λ (a : Part). IsFiledPart p n y fresh (λ u. u ≢ v) a b) (any_default old.parts (range_of old.bits v) d0 d place) (filed_one (get_or old.parts (range_of old.bits v) d0) b w queue (subst (λ (a : Part). IsHeld a.watch v) (any_default old.parts (range_of old.bits v) no_part d0 place) (can.cut.vertex v h).held) room made s))
-        | inr ne ↦ rw (get_or-set_other old.parts (range_of old.bits v) j b d ne) (filed_none p n y fresh (λ u. u ≢ v) (get_or old.parts j d) (λ u held e. absurd (ne (sym (can.cut.own j u at (subst (λ (a : Part). IsHeld a.watch u) (any_default old.parts j d no_part at) held)).1 ∙ ap (range_of old.bits) e))))
+        | inl e ↦ rw (e, get_or-set_same old.parts (range_of old.bits v) b d place) (subst (λ (a : Part). IsFiledPart p n y fresh (λ u. u ≢ v) a b) (get_or_default old.parts (range_of old.bits v) d0 d place) (filed_one (get_or old.parts (range_of old.bits v) d0) b w queue (subst (λ (a : Part). HasVertex a.watch v) (get_or_default old.parts (range_of old.bits v) no_part d0 place) (can.cut.vertex v h).held) room made s))
+        | inr ne ↦ rw (get_or-set_other old.parts (range_of old.bits v) j b d ne) (filed_none p n y fresh (λ u. u ≢ v) (get_or old.parts j d) (λ u held e. absurd (ne (sym (can.cut.own j u at (subst (λ (a : Part). HasVertex a.watch u) (get_or_default old.parts j d no_part at) held)).1 ∙ ap (range_of old.bits) e))))
       ]))
     where
       place : range_of old.bits v < length old.parts
       place = (can.cut.vertex v h).place
 
       room : get_or y v 0 < length (get_or old.parts (range_of old.bits v) d0).queue
-      room = omega (arith, can.levels.2 v (omega (arith, h, can.levels.1)), ap (λ (a : Part). length a.queue) (any_default old.parts (range_of old.bits v) d0 no_part place), can.cut.queues (range_of old.bits v) place)
+      room = omega (arith, can.levels.2 v (omega (arith, h, can.levels.1)), ap (λ (a : Part). length a.queue) (get_or_default old.parts (range_of old.bits v) d0 no_part place), can.cut.queues (range_of old.bits v) place)
 
 pub can_file_on : (p : Profile) (n : ℕ) (y fresh : List ℕ) (old new : Cut) → CanFile p n y fresh old → IsSameCut old new → CanFile p n y fresh new
 can_file_on p n y fresh old new can same = record { few = can.few; levels = can.levels; cut = cut_same (length fresh) (top_level p n + 1) old new can.cut same }
 
 -- loops over a list
 module _ (p : Profile) (n : ℕ) (y fresh : List ℕ) where
-  pub counted_first : (spared : ℕ → Type 0) (a : Cut) → ((v : ℕ) → spared v) → HaveCounted p n y fresh spared a a
-  counted_first spared a rest = record { same = same_cut a; copied = copied_first fresh (counts_of a) spared rest; filing = λ before s. s }
-
   pub counted_wider : (few many : ℕ → Type 0) (a b : Cut) → ((v : ℕ) → few v → many v) → HaveCounted p n y fresh few a b → HaveCounted p n y fresh many a b
   counted_wider few many a b wider s = record {
     same = s.same;
@@ -266,7 +262,7 @@ pub all_filed : (p : Profile) (n : ℕ) (y fresh : List ℕ) (old new : Cut) →
 all_filed p n y fresh old new can bits told sized each = have_counted p n y fresh (λ v. v ≢ v) old new can bits told sized (λ j d h. filed_all p n y fresh (λ v. v ≢ v) (get_or old.parts j d) (get_or new.parts j d) (each j d h))
 
 pub can_follow : (p : Profile) (n : ℕ) (y fresh : List ℕ) (old : Cut) → CanFile p n y fresh old → (j : ℕ) (d : Part) → j < length old.parts → CanFollow p n y fresh (get_or old.parts j d)
-can_follow p n y fresh old can j d h = rw (any_default old.parts j d no_part h) (record {
+can_follow p n y fresh old can j d h = rw (get_or_default old.parts j d no_part h) (record {
   inside = λ v held. (can.cut.own j v h held).0;
   few = can.few;
   levels = can.levels;

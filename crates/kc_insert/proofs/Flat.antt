@@ -7,7 +7,8 @@ use Rattle.std.proofs.lemmas.List.{length-append, take_more, take_all, append-ni
 use Rattle.std.proofs.lemmas.List.Concat.{get_or-flat_map}
 use Rattle.std.proofs.lemmas.Grind.{flat_map-append}
 use Rattle.std.proofs.Math.Nat.{div-mul-le_self, lt-div-mul-add, suc-mul}
-use Rattle.kc_insert.specs.Ranges.{counts_of, Cut, IsCut, IsHeld, no_part, Part, part_at, part_of, range_of}
+use Rattle.std.proofs.lemmas.Bool.Decides.{nat_tests}
+use Rattle.kc_insert.specs.Ranges.{counts_of, Cut, IsCut, HasVertex, no_part, Part, part_at, part_of, range_of}
 use Rattle.kc_insert.specs.private.Ranges.{count_of}
 
 module _ (n levels : ℕ) (r : Cut) (s : IsCut n levels r) where
@@ -23,16 +24,13 @@ module _ (n levels : ℕ) (r : Cut) (s : IsCut n levels r) where
 
   -- the vertices of a range
   from_place : (j v : ℕ) → range_of r.bits v ≡ j → (j * wide ≤ v) × (v < j * wide + wide)
-  from_place j v here = (
-    subst (λ k. k * wide ≤ v) here (div-mul-le_self v wide),
-    subst (λ k. v < k * wide + wide) here (lt-div-mul-add {a = v} {b = wide} (pow_pos r.bits)),
-  )
+  from_place j v here = grind (arith, nat_tests, div-mul-le_self, lt-div-mul-add, pow_pos)
 
   to_place : (j v : ℕ) → j * wide ≤ v → v < j * wide + wide → range_of r.bits v ≡ j
   to_place j v low high_ = ap (λ k. k / wide) (omega (arith, low)) ∙ div-mul-add j wide (v - j * wide) (omega (arith, low, high_))
 
-  holds : (j v : ℕ) → j * wide ≤ v → v < j * wide + wide → v < n → IsHeld (part_at r j).watch v
-  holds j v low high_ h = subst (λ k. IsHeld (part_at r k).watch v) (to_place j v low high_) (s.vertex v h).held
+  holds : (j v : ℕ) → j * wide ≤ v → v < j * wide + wide → v < n → HasVertex (part_at r j).watch v
+  holds j v low high_ h = subst (λ k. HasVertex (part_at r k).watch v) (to_place j v low high_) (s.vertex v h).held
 
   -- the first vertex of a range that has some
   first_is : (j : ℕ) → j < length r.parts → j * wide < n → (part_at r j).watch.first ≡ j * wide

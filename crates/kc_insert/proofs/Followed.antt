@@ -5,6 +5,7 @@ use Rattle.std.specs.List.{All}
 use Rattle.std.proofs.lemmas.Bool.{cases_lt, true≢false}
 use Rattle.std.proofs.lemmas.List.{get_or_past}
 use Rattle.std.proofs.lemmas.List.Elements.{All-tail}
+use Rattle.std.proofs.lemmas.Bool.Decides.{nat_tests}
 use Rattle.kc_graph.specs.Numbers.{has_number}
 use Rattle.kc_graph.specs.Shape.{GraphShape, Pair, neighbours_of, with_edge, without_edge, with_edges, without_edges}
 use Rattle.kc_graph.proofs.lemmas.Neighbours.{neighbours_both, neighbours_of_insert_other, neighbours_of_remove_other}
@@ -16,7 +17,7 @@ use Rattle.kc_levels.specs.private.Following.{IsCopied}
 use Rattle.kc_levels.proofs.lemmas.Writes.{copied_then}
 use Rattle.kc_levels.proofs.lemmas.Moves.{still_here}
 use Rattle.kc_adj.specs.LeveledGraph.{IsCounted}
-use Rattle.kc_insert.proofs.Flips.{count_agree}
+use Rattle.kc_insert.proofs.Tests.{count_agree}
 
 -- edges elsewhere don't change the neighbours
 pub neighbours_added : (v : ℕ) (g : GraphShape) (es : List Pair) → All (λ e. (v ≢ e.0) × (v ≢ e.1)) es → neighbours_of v (with_edges g es).edges ≡ neighbours_of v g.edges
@@ -46,9 +47,7 @@ counted_copied g h x y old fresh new spared same c d s kept = record {
 -- after edges came in
 pub counted_added : (g h : GraphShape) (x y old fresh new : List ℕ) (es : List Pair) → h ≡ with_edges g es → h.vertices ≡ g.vertices → y ≡ x → IsCounted g x 0 old → IsCounted h y 0 fresh → IsCopied fresh old new (λ v. All (λ e. (v ≢ e.0) × (v ≢ e.1)) es) → IsCounted h y 0 new
 unfolding at_least
-counted_added g h x y old fresh new es is same levels c d s =
-    counted_copied g h x y old fresh new (λ v. All (λ e. (v ≢ e.0) × (v ≢ e.1)) es) same c d s
-    (λ v within spared. ap (λ t. count_by (λ w. leb (get_or t v 0 - 0) (get_or t w 0)) (neighbours_of v h.edges)) levels ∙ ap (λ ws. count_by (λ w. leb (get_or x v 0 - 0) (get_or x w 0)) ws) (ap (λ (k : GraphShape). neighbours_of v k.edges) is ∙ neighbours_added v g es spared))
+counted_added g h x y old fresh new es is same levels c d s = grind (arith, nat_tests, counted_copied, neighbours_added)
 
 -- counts that were copied where edges left, and where somebody moved and beside
 pub counted_followed : (n : ℕ) (g h : GraphShape) (x y old mid fresh new : List ℕ) (es : List Pair) (moves : List Move) → g.vertices ≡ n → length x ≡ n → length y ≡ n → h ≡ without_edges g es → moves ≡ moves_between n x y → IsCounted g x 0 old → IsCounted h y 0 fresh → IsCopied fresh old mid (λ v. All (λ (e : Pair). (v ≢ e.0) × (v ≢ e.1)) es) → IsCopied fresh mid new (λ v. All (λ (m : Move). (v ≢ m.vertex) × (has_number v (neighbours_of m.vertex h.edges) ≡ false)) moves) → IsCounted h y 0 new

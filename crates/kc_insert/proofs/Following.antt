@@ -1,48 +1,16 @@
 -- The vertices of a range count afresh, one after another, and wait if they count more than their groups allow.
-use Rattle.std.proofs.Common.{ℕ, ◌+◌, ◌-◌, ◌≤◌, ◌<◌, ◌≡◌, ◌≢◌, ◌⊎◌, inl, inr, Bool, true, false, cond, ltb, eqb, not, ◌&&◌, List, [], ◌∷◌, ◌++◌, length, get_or, set, refl, ap, sym, ◌∙◌, arith}
+use Rattle.std.proofs.Common.{ℕ, ◌+◌, ◌-◌, ◌<◌, ◌≡◌, ◌≢◌, ◌⊎◌, inl, inr, Bool, true, false, cond, ltb, eqb, not, ◌&&◌, List, [], ◌∷◌, ◌++◌, length, get_or, set, refl, ap, sym, ◌∙◌, arith}
 use Rattle.std.proofs.lemmas.Bool.{cases_eq, cases_Bool}
 use Rattle.std.proofs.lemmas.Bool.Decides.{nat_tests}
-use Rattle.std.proofs.lemmas.List.{length-set, set-get_or}
+use Rattle.std.proofs.lemmas.List.{length-set}
 use Rattle.kc_graph.specs.Numbers.{has_number}
 use Rattle.kc_levels.specs.declared.profile.Profile.{Profile}
 use Rattle.kc_levels.specs.Thresholds.{high, group_of}
 use Rattle.kc_insert.specs.private.Filed.{HasFollowed, HaveFiled}
 use Rattle.kc_insert.specs.private.Watched.{count_at}
-use Rattle.kc_insert.specs.Ranges.{IsHeld, Watch}
+use Rattle.kc_insert.specs.Ranges.{HasVertex, Watch}
 use Rattle.kc_insert.proofs.Buckets.{placed, pushed_is, has_last, still_there, now_there}
 use Rattle.kc_insert.proofs.Watching.{count_here, count_other}
-
--- one vertex follows its fresh count: the three ways of the code
-module _ (p : Profile) (n : ℕ) (y : List ℕ) (v own : ℕ) (old : Watch) (first : List (List ℕ)) where
-  abbrev filed : List (List ℕ)
-  filed = set first (get_or y v 0) (get_or first (get_or y v 0) [] ++ v ∷ [])
-
-  pub followed_same : count_at old v ≡ own → HasFollowed p n y v own old old first first
-  followed_same is = record {
-    counts = ap (λ ks. record old { counts = ks }) (sym (ap (λ k. set old.counts (v - old.first) k) (sym is) ∙ set-get_or old.counts (v - old.first) 0));
-    waits = sym (ap (λ b. cond (not b && ltb (high p (group_of p n (get_or y v 0))) own) filed first) (test (count_at old v) is));
-  }
-    where
-      test : (c : ℕ) → c ≡ own → eqb c own ≡ true
-      test c e = grind (arith, nat_tests, e)
-
-  pub followed_few : (new : Watch) → count_at old v ≢ own → own ≤ high p (group_of p n (get_or y v 0)) → new ≡ record old { counts = set old.counts (v - old.first) own } → HasFollowed p n y v own old new first first
-  followed_few new other few is = record {
-    counts = is;
-    waits = sym (ap (λ b. cond b filed first) (test (count_at old v) (high p (group_of p n (get_or y v 0))) few));
-  }
-    where
-      test : (c h : ℕ) → own ≤ h → not (eqb c own) && ltb h own ≡ false
-      test c h le = grind (arith, nat_tests, le)
-
-  pub followed_many : (new : Watch) (queue : List (List ℕ)) → count_at old v ≢ own → high p (group_of p n (get_or y v 0)) < own → new ≡ record old { counts = set old.counts (v - old.first) own } → queue ≡ filed → HasFollowed p n y v own old new first queue
-  followed_many new queue other many is waits = record {
-    counts = is;
-    waits = waits ∙ sym (ap (λ b. cond b filed first) (test (count_at old v) (high p (group_of p n (get_or y v 0))) other many));
-  }
-    where
-      test : (c h : ℕ) → c ≢ own → h < own → not (eqb c own) && ltb h own ≡ true
-      test c h ne lt = grind (arith, nat_tests, ne, lt)
 
 pub filed_first : (p : Profile) (n : ℕ) (y fresh : List ℕ) (a : Watch) (first : List (List ℕ)) → HaveFiled p n y fresh 0 a a first first
 filed_first p n y fresh a first = record {
@@ -61,7 +29,7 @@ module _ (p : Profile) (n : ℕ) (y fresh : List ℕ) (i v : ℕ) (a b c : Watch
   same : b.first ≡ a.first
   same = ap (λ (w : Watch). w.first) s.watch
 
-  held : IsHeld b v
+  held : HasVertex b v
   held = record { from = omega (arith, is, same); below = omega (arith, is, at, same, s.sized) }
 
   kept : c.first ≡ b.first
@@ -98,7 +66,7 @@ module _ (p : Profile) (n : ℕ) (y fresh : List ℕ) (i v : ℕ) (a b c : Watch
     ];
     only = λ k u there. elim (cases_Bool test) [
       | inr no_ ↦ s.only k u (rw (passes no_) at there)
-      | inl yes_ ↦ placed mid (get_or y v 0) k (get_or mid (get_or y v 0) [] ++ v ∷ []) wide (λ xs. has_number u xs ≡ true → (has_number u (get_or first k []) ≡ true) ⊎ (IsHeld a u × (get_or y u 0 ≡ k)))
+      | inl yes_ ↦ placed mid (get_or y v 0) k (get_or mid (get_or y v 0) [] ++ v ∷ []) wide (λ xs. has_number u xs ≡ true → (has_number u (get_or first k []) ≡ true) ⊎ (HasVertex a u × (get_or y u 0 ≡ k)))
           (λ here in_it. elim (pushed_is u v (get_or mid (get_or y v 0) []) in_it) [
             | inl e ↦ inr (rw e (record { from = omega (arith, is); below = omega (arith, is, at) }), rw e (sym here))
             | inr old ↦ s.only k u (rw here old)

@@ -8,7 +8,7 @@ use Rattle.std.proofs.lemmas.List.Concat.{flat_map-cons}
 use Rattle.std.proofs.Math.Seq.{take-suc}
 use Rattle.kc_graph.specs.Numbers.{has_number}
 use Rattle.kc_insert.specs.private.Telling.{heard_by, times}
-use Rattle.kc_insert.specs.Ranges.{IsHeld, Part, Tell, Watch}
+use Rattle.kc_insert.specs.Ranges.{HasVertex, Part, Tell, Watch}
 use Rattle.kc_insert.specs.private.Watched.{count_at, StayWatched}
 use Rattle.kc_insert.specs.private.Parts.{HaveMet}
 use Rattle.kc_insert.proofs.Adding.{times-append, times_there, times_some}
@@ -46,8 +46,8 @@ pub record IsHeardLess (own : ℕ) (told : List Tell) (i : ℕ) (a b : Watch) : 
 pub heard_first : (own : ℕ) (told : List Tell) (a : Watch) → IsHeardLess own told 0 a a
 heard_first own told a = record { watched = watched_same a; less = λ v from. omega arith }
 
-module _ (own : ℕ) (told : List Tell) (i : ℕ) (d : Tell) (at : i < length told) (a b : Watch) (held : (v : ℕ) → has_number v (heard_by own told) ≡ true → IsHeld a v) (enough : (v : ℕ) → times v (heard_by own told) ≤ count_at a v) (s : IsHeardLess own told i a b) where
-  pub less_held : (v : ℕ) → has_number v (here own told i d at) ≡ true → IsHeld b v
+module _ (own : ℕ) (told : List Tell) (i : ℕ) (d : Tell) (at : i < length told) (a b : Watch) (held : (v : ℕ) → has_number v (heard_by own told) ≡ true → HasVertex a v) (enough : (v : ℕ) → times v (heard_by own told) ≤ count_at a v) (s : IsHeardLess own told i a b) where
+  pub less_held : (v : ℕ) → has_number v (here own told i d at) ≡ true → HasVertex b v
   less_held v there =
       let was = held v (heard_there own told i d at v there) in
       record { from = omega (arith, was.from, s.watched.first); below = omega (arith, was.below, s.watched.first, s.watched.sized) }
@@ -74,7 +74,7 @@ module _ (own level most : ℕ) (told : List Tell) (i : ℕ) (d : Tell) (at : i 
   begun : b.watch.first ≡ a.watch.first
   begun = ap (λ (p : Part). p.watch.first) s.part
 
-  pub more_held : ((v : ℕ) → has_number v (heard_by own told) ≡ true → IsHeld a.watch v) → (v : ℕ) → has_number v (here own told i d at) ≡ true → IsHeld b.watch v
+  pub more_held : ((v : ℕ) → has_number v (heard_by own told) ≡ true → HasVertex a.watch v) → (v : ℕ) → has_number v (here own told i d at) ≡ true → HasVertex b.watch v
   more_held held v there =
       let was = held v (heard_there own told i d at v there) in
       record { from = omega (arith, was.from, begun); below = omega (arith, was.below, begun, s.sized) }
@@ -82,7 +82,7 @@ module _ (own level most : ℕ) (told : List Tell) (i : ℕ) (d : Tell) (at : i 
   above : (most_of : ℕ) → ((v : ℕ) → count_at a.watch v + times v (heard_by own told) ≤ most_of) → (v : ℕ) → a.watch.first ≤ v → count_at b.watch v + times v (here own told i d at) ≤ most_of
   above most_of small v from = omega (arith, s.more v from, heard_part own told i d at v, small v)
 
-  pub more_small : (most_of : ℕ) → ((v : ℕ) → has_number v (heard_by own told) ≡ true → IsHeld a.watch v) → ((v : ℕ) → count_at a.watch v + times v (heard_by own told) ≤ most_of) → (v : ℕ) → count_at b.watch v + times v (here own told i d at) ≤ most_of
+  pub more_small : (most_of : ℕ) → ((v : ℕ) → has_number v (heard_by own told) ≡ true → HasVertex a.watch v) → ((v : ℕ) → count_at a.watch v + times v (heard_by own told) ≤ most_of) → (v : ℕ) → count_at b.watch v + times v (here own told i d at) ≤ most_of
   more_small most_of held small v = elim (cases_lt v a.watch.first) [
     | inr from ↦ above most_of small v from
     | inl below ↦ elim (cases_lt 0 (times v (here own told i d at))) [

@@ -1,5 +1,5 @@
 -- What holds of all that is told.
-use Rattle.std.proofs.Common.{ℕ, ◌<◌, ◌≡◌, inl, inr, Bool, true, false, cond, ◌&&◌, ◌||◌, List, [], ◌∷◌, ◌++◌, length, get_or, map, refl, ap, sym, ◌∙◌, arith}
+use Rattle.std.proofs.Common.{ℕ, ◌<◌, ◌≡◌, inl, inr, Bool, true, cond, List, [], ◌∷◌, ◌++◌, length, get_or, map, refl, ap, sym, ◌∙◌, arith}
 use Rattle.std.specs.Prelude.{All, filter}
 use Rattle.std.specs.List.{flat_map}
 use Rattle.std.proofs.lemmas.Bool.{cases_Bool, true≢false}
@@ -11,9 +11,7 @@ use Rattle.kc_graph.proofs.lemmas.Numbers.{has_number_at, has_number-append}
 use Rattle.kc_graph.proofs.lemmas.Neighbours.{neighbour_below}
 use Rattle.kc_insert.specs.Ranges.{range_of, Tell}
 use Rattle.kc_insert.proofs.Buckets.{has_number-filter}
-
-either : (a b : Bool) → a || b ≡ true → a ≡ false → b ≡ true
-either a b e f = grind (arith, nat_tests, e, f)
+use Rattle.kc_insert.proofs.Tests.{and_first, or_either}
 
 pub all_of : (P : ℕ → Type 0) (xs : List ℕ) → ((v : ℕ) → has_number v xs ≡ true → P v) → All P xs
 all_of P xs each k d h = rw (get_or_default_zero xs k d h) (each (get_or xs k 0) (has_number_at (get_or xs k 0) xs k h refl))
@@ -21,7 +19,7 @@ all_of P xs each k d h = rw (get_or_default_zero xs k d h) (each (get_or xs k 0)
 pub inside_both : (P : ℕ → Type 0) (xs ys : List ℕ) → ((v : ℕ) → has_number v xs ≡ true → P v) → ((v : ℕ) → has_number v ys ≡ true → P v) → (v : ℕ) → has_number v (xs ++ ys) ≡ true → P v
 inside_both P xs ys first second v there = elim (cases_Bool (has_number v xs)) [
   | inl here ↦ first v here
-  | inr none ↦ second v (either _ _ (sym (has_number-append v xs ys) ∙ there) none)
+  | inr none ↦ second v (or_either _ _ (sym (has_number-append v xs ys) ∙ there) none)
 ]
 
 pub inside_rows : (P : ℕ → Type 0) (f : ℕ → List ℕ) (xs : List ℕ) → ((x v : ℕ) → has_number x xs ≡ true → has_number v (f x) ≡ true → P v) → (v : ℕ) → has_number v (flat_map f xs) ≡ true → P v
@@ -43,10 +41,7 @@ inside_ends P h p (e ∷ es) each u there = elim (cases_Bool (p e)) [
 
 -- a neighbour that passes a test is a vertex
 pub near_inside : (g : GraphShape) (v u : ℕ) (p : ℕ → Bool) → IsGraph g → has_number u (filter p (neighbours_of v g.edges)) ≡ true → u < g.vertices
-near_inside g v u p graph there = neighbour_below g.vertices v u g.edges graph (first (has_number u (neighbours_of v g.edges)) (p u) (sym (has_number-filter u p (neighbours_of v g.edges)) ∙ there))
-  where
-    first : (a b : Bool) → a && b ≡ true → a ≡ true
-    first a b e = grind (arith, nat_tests, e)
+near_inside g v u p graph there = neighbour_below g.vertices v u g.edges graph (and_first (has_number u (neighbours_of v g.edges)) (p u) (sym (has_number-filter u p (neighbours_of v g.edges)) ∙ there))
 
 -- a list of vertices can be dealt to the ranges
 pub dealt_all : (bits n : ℕ) (lists : List (List ℕ)) (y : Tell) (told : List ℕ) → y ≡ record { all = told; lists = lists } → ((v : ℕ) → has_number v told ≡ true → v < n) → ((v : ℕ) → v < n → range_of bits v < length lists) → All (λ v. range_of bits v < length y.lists) y.all

@@ -1,66 +1,98 @@
--- Lists of all ranges, one after another.
-use Rattle.std.proofs.Common.{ℕ, suc, zero, ◌+◌, ◌≤◌, ◌<◌, ◌≡◌, ◌≢◌, inl, inr, Bool, true, false, cond, eqb, ◌||◌, List, [], ◌∷◌, ◌++◌, length, get_or, map, filter, refl, ap, sym, ◌∙◌, arith}
+-- The lists of all ranges, one after another: what is in them, how often, and where.
+use Rattle.std.proofs.Common.{ℕ, suc, zero, ◌+◌, ◌≤◌, ◌<◌, ◌≡◌, inl, inr, Bool, true, false, cond, eqb, ◌||◌, List, [], ◌∷◌, ◌++◌, length, get_or, set, take, ap, sym, ◌∙◌, arith, ◌≢◌, map, filter, refl}
 use Rattle.std.specs.List.{flat_map}
-use Rattle.std.proofs.lemmas.Bool.{cases_eq, cases_Bool, true≢false}
+use Rattle.std.proofs.lemmas.Bool.{cases_Bool, or_right, true≢false}
 use Rattle.std.proofs.lemmas.Bool.Decides.{nat_tests}
+use Rattle.std.proofs.lemmas.List.{append-nil, length-append, take_more_set, map-append}
 use Rattle.std.proofs.lemmas.Grind.{flat_map-append}
-use Rattle.std.proofs.lemmas.List.{map-append}
 use Rattle.std.proofs.lemmas.List.Elements.{filter-append}
 use Rattle.kc_graph.specs.Numbers.{has_number}
-use Rattle.kc_graph.specs.Shape.{Pair, has_edge, same_edge}
 use Rattle.kc_graph.proofs.lemmas.Numbers.{has_number-append}
 use Rattle.kc_levels.specs.Following.{AreDistinct}
+use Rattle.kc_graph.specs.Shape.{Pair, has_edge, same_edge}
+use Rattle.kc_insert.specs.private.Telling.{times}
 use Rattle.kc_insert.specs.private.Meetings.{AreApart}
 use Rattle.kc_insert.specs.Ranges.{no_part, Part}
-use Rattle.kc_insert.specs.private.Telling.{times}
-use Rattle.kc_insert.proofs.Adding.{times-append, times_none, times_there}
+use Rattle.kc_insert.proofs.Adding.{times_none, times_there, times-append}
+use Rattle.kc_insert.proofs.Tests.{or_either}
 
-either : (a b : Bool) → a || b ≡ true → a ≡ false → b ≡ true
-either a b e f = grind (arith, nat_tests, e, f)
+-- a loop that writes one range after another
+pub flat_next : {P X : Type 0} (f : P → List X) (ps : List P) (i : ℕ) (p : P) → i < length ps → flat_map f (take (i + 1) (set ps i p)) ≡ flat_map f (take i ps) ++ f p
+flat_next {P} {X} f ps i p at = ap (flat_map f) (take_more_set ps i p at) ∙ flat_map-append f (take i ps) (p ∷ []) ∙ ap (λ (xs : List X). flat_map f (take i ps) ++ xs) (append-nil (f p))
+
+-- the lists with one of them another are as long as before but for it
+pub length_set : {P X : Type 0} (f : P → List X) (ps : List P) (j : ℕ) (p d : P) → j < length ps → length (flat_map f (set ps j p)) + length (f (get_or ps j d)) ≡ length (flat_map f ps) + length (f p)
+length_set f [] j p d at = absurd (omega arith)
+length_set {P} {X} f (q ∷ ps) zero p d at = omega (arith, length-append (f p) (flat_map f ps), length-append (f q) (flat_map f ps))
+length_set {P} {X} f (q ∷ ps) (suc j) p d at = omega (arith, length_set f ps j p d (omega arith), length-append (f q) (flat_map f (set ps j p)), length-append (f q) (flat_map f ps))
+
+-- a number of one list is one of all lists
+pub flat_has : {P : Type 0} (f : P → List ℕ) (ps : List P) (j v : ℕ) (d : P) → j < length ps → has_number v (f (get_or ps j d)) ≡ true → has_number v (flat_map f ps) ≡ true
+flat_has f [] j v d at there = absurd (omega arith)
+flat_has f (p ∷ ps) zero v d at there = has_number-append v (f p) (flat_map f ps) ∙ ap (λ b. b || has_number v (flat_map f ps)) there
+flat_has f (p ∷ ps) (suc j) v d at there = has_number-append v (f p) (flat_map f ps) ∙ ap (λ b. has_number v (f p) || b) (flat_has f ps j v d (omega arith) there) ∙ grind (arith, nat_tests)
+
+-- a number of all lists is one of one list
+pub record IsOfOne {P : Type 0} (f : P → List ℕ) (ps : List P) (v : ℕ) : Type 0 where
+  pub place : ℕ
+  pub inside : place < length ps
+  pub there : (d : P) → has_number v (f (get_or ps place d)) ≡ true
+
+pub of_one : {P : Type 0} (f : P → List ℕ) (ps : List P) (v : ℕ) → has_number v (flat_map f ps) ≡ true → IsOfOne f ps v
+of_one f [] v there = absurd (true≢false (sym there))
+of_one {P} f (p ∷ ps) v there = elim (cases_Bool (has_number v (f p))) [
+  | inl here ↦ record { place = 0; inside = omega arith; there = λ d. here }
+  | inr none ↦
+      let rest = of_one f ps v (or_either (has_number v (f p)) (has_number v (flat_map f ps)) (sym (has_number-append v (f p) (flat_map f ps)) ∙ there) none) in
+      record { place = suc rest.place; inside = omega (arith, rest.inside); there = λ d. rest.there d }
+]
+
+-- distinct numbers
+pub distinct_times : (vs : List ℕ) → ((v : ℕ) → times v vs ≤ 1) → AreDistinct vs
+distinct_times [] once = record {}
+distinct_times (v ∷ vs) once = (
+  elim (cases_Bool (has_number v vs)) [
+    | inr none ↦ none
+    | inl there ↦ absurd (omega (arith, once v, times_there v vs there, one v (times v vs)))
+  ],
+  distinct_times vs (λ u. omega (arith, once u, less u)),
+)
+  where
+    one : (k m : ℕ) → cond (eqb k k) 1 0 + m ≡ 1 + m
+    one k m = grind (arith, nat_tests)
+
+    less : (u : ℕ) → times u vs ≤ cond (eqb v u) 1 0 + times u vs
+    less u = omega arith
+
+pub times_distinct : (v : ℕ) (vs : List ℕ) → AreDistinct vs → times v vs ≤ 1
+times_distinct v [] once = omega arith
+times_distinct v (u ∷ us) once = grind (arith, nat_tests, times_distinct v us once.1, times_none, once.0, once.1)
 
 -- a vertex of the lists is in one of them
 pub joined_in : (f : Part → List ℕ) (ps : List Part) (v : ℕ) → has_number v (flat_map f ps) ≡ true → (j : ℕ) × (j < length ps) × (has_number v (f (get_or ps j no_part)) ≡ true)
-joined_in f [] v there = absurd (true≢false (sym there))
-joined_in f (p ∷ ps) v there = elim (cases_Bool (has_number v (f p))) [
-  | inl here ↦ (0, omega arith, here)
-  | inr none ↦
-      let later = joined_in f ps v (either (has_number v (f p)) (has_number v (flat_map f ps)) (sym (has_number-append v (f p) (flat_map f ps)) ∙ there) none) in
-      (suc later.0, omega (arith, later.1), later.2)
-]
+joined_in f ps v there = let it = of_one f ps v there in (it.place, it.inside, it.there no_part)
 
 pub joined_of : (f : Part → List ℕ) (ps : List Part) (v j : ℕ) → j < length ps → has_number v (f (get_or ps j no_part)) ≡ true → has_number v (flat_map f ps) ≡ true
-joined_of f [] v j h there = absurd (omega (arith, h))
-joined_of f (p ∷ ps) v zero h there = has_number-append v (f p) (flat_map f ps) ∙ ap (λ b. b || has_number v (flat_map f ps)) there
-joined_of f (p ∷ ps) v (suc j) h there = has_number-append v (f p) (flat_map f ps) ∙ right (has_number v (f p)) (has_number v (flat_map f ps)) (joined_of f ps v j (omega (arith, h)) there)
-  where
-    right : (a b : Bool) → b ≡ true → a || b ≡ true
-    right a b e = grind (arith, nat_tests, e)
+joined_of f ps v j at there = flat_has f ps j v no_part at there
 
 -- the same of pairs
 pub has_edge-append : (e : Pair) (xs ys : List Pair) → has_edge e (xs ++ ys) ≡ has_edge e xs || has_edge e ys
 has_edge-append e [] ys = refl
-has_edge-append e (f ∷ fs) ys = ap (λ b. same_edge e f || b) (has_edge-append e fs ys) ∙ assoc (same_edge e f) (has_edge e fs) (has_edge e ys)
-  where
-    assoc : (a b c : Bool) → a || (b || c) ≡ (a || b) || c
-    assoc true b c = refl
-    assoc false b c = refl
+has_edge-append e (f ∷ fs) ys = grind (arith, nat_tests, has_edge-append e fs ys)
 
 pub pairs_in : (f : Part → List Pair) (ps : List Part) (e : Pair) → has_edge e (flat_map f ps) ≡ true → (j : ℕ) × (j < length ps) × (has_edge e (f (get_or ps j no_part)) ≡ true)
 pairs_in f [] e there = absurd (true≢false (sym there))
 pairs_in f (p ∷ ps) e there = elim (cases_Bool (has_edge e (f p))) [
   | inl here ↦ (0, omega arith, here)
   | inr none ↦
-      let later = pairs_in f ps e (either (has_edge e (f p)) (has_edge e (flat_map f ps)) (sym (has_edge-append e (f p) (flat_map f ps)) ∙ there) none) in
+      let later = pairs_in f ps e (or_either (has_edge e (f p)) (has_edge e (flat_map f ps)) (sym (has_edge-append e (f p) (flat_map f ps)) ∙ there) none) in
       (suc later.0, omega (arith, later.1), later.2)
 ]
 
 pub pairs_of : (f : Part → List Pair) (ps : List Part) (e : Pair) (j : ℕ) → j < length ps → has_edge e (f (get_or ps j no_part)) ≡ true → has_edge e (flat_map f ps) ≡ true
 pairs_of f [] e j h there = absurd (omega (arith, h))
 pairs_of f (p ∷ ps) e zero h there = has_edge-append e (f p) (flat_map f ps) ∙ ap (λ b. b || has_edge e (flat_map f ps)) there
-pairs_of f (p ∷ ps) e (suc j) h there = has_edge-append e (f p) (flat_map f ps) ∙ right (has_edge e (f p)) (has_edge e (flat_map f ps)) (pairs_of f ps e j (omega (arith, h)) there)
-  where
-    right : (a b : Bool) → b ≡ true → a || b ≡ true
-    right a b e = grind (arith, nat_tests, e)
+pairs_of f (p ∷ ps) e (suc j) h there = has_edge-append e (f p) (flat_map f ps) ∙ or_right (has_edge e (f p)) (has_edge e (flat_map f ps)) (pairs_of f ps e j (omega (arith, h)) there)
 
 -- lists that are the same range by range
 pub joined_same : {A : Type 0} (f h : Part → List A) (qs ps : List Part) → length qs ≡ length ps → ((j : ℕ) → j < length ps → f (get_or qs j no_part) ≡ h (get_or ps j no_part)) → flat_map f qs ≡ flat_map h ps
@@ -78,10 +110,10 @@ joined_rows row f (p ∷ ps) = flat_map-append row (f p) (flat_map f ps) ∙ ap 
 
 pub joined_ends : (end : Pair → ℕ) (test : Pair → Bool) (f : Part → List Pair) (ps : List Part) → map end (filter test (flat_map f ps)) ≡ flat_map (λ p. map end (filter test (f p))) ps
 joined_ends end test f [] = refl
-joined_ends end test f (p ∷ ps) =
-    ap (map end) (filter-append test (f p) (flat_map f ps))
-    ∙ map-append end (filter test (f p)) (filter test (flat_map f ps))
-    ∙ ap (λ ys. map end (filter test (f p)) ++ ys) (joined_ends end test f ps)
+joined_ends end test f (p ∷ ps) = grind (arith, nat_tests, joined_ends end test f ps, filter-append, map-append)
+
+or_swap : (a b c d : Bool) → (a || b) || (c || d) ≡ (a || c) || (b || d)
+or_swap a b c d = grind (arith, nat_tests)
 
 -- two lists of each range
 pub has_joined : (v : ℕ) (f h : Part → List ℕ) (ps : List Part) → has_number v (flat_map (λ p. f p ++ h p) ps) ≡ has_number v (flat_map f ps) || has_number v (flat_map h ps)
@@ -90,12 +122,9 @@ has_joined v f h (p ∷ ps) =
     has_number-append v (f p ++ h p) (flat_map (λ q. f q ++ h q) ps)
     ∙ ap (λ b. b || has_number v (flat_map (λ q. f q ++ h q) ps)) (has_number-append v (f p) (h p))
     ∙ ap (λ b. (has_number v (f p) || has_number v (h p)) || b) (has_joined v f h ps)
-    ∙ swap (has_number v (f p)) (has_number v (h p)) (has_number v (flat_map f ps)) (has_number v (flat_map h ps))
+    ∙ or_swap (has_number v (f p)) (has_number v (h p)) (has_number v (flat_map f ps)) (has_number v (flat_map h ps))
     ∙ ap (λ b. b || (has_number v (h p) || has_number v (flat_map h ps))) (sym (has_number-append v (f p) (flat_map f ps)))
     ∙ ap (λ b. has_number v (flat_map f (p ∷ ps)) || b) (sym (has_number-append v (h p) (flat_map h ps)))
-  where
-    swap : (a b c d : Bool) → (a || b) || (c || d) ≡ (a || c) || (b || d)
-    swap a b c d = grind (arith, nat_tests)
 
 pub pairs_joined : (e : Pair) (f h : Part → List Pair) (ps : List Part) → has_edge e (flat_map (λ p. f p ++ h p) ps) ≡ has_edge e (flat_map f ps) || has_edge e (flat_map h ps)
 pairs_joined e f h [] = refl
@@ -103,52 +132,14 @@ pairs_joined e f h (p ∷ ps) =
     has_edge-append e (f p ++ h p) (flat_map (λ q. f q ++ h q) ps)
     ∙ ap (λ b. b || has_edge e (flat_map (λ q. f q ++ h q) ps)) (has_edge-append e (f p) (h p))
     ∙ ap (λ b. (has_edge e (f p) || has_edge e (h p)) || b) (pairs_joined e f h ps)
-    ∙ swap (has_edge e (f p)) (has_edge e (h p)) (has_edge e (flat_map f ps)) (has_edge e (flat_map h ps))
+    ∙ or_swap (has_edge e (f p)) (has_edge e (h p)) (has_edge e (flat_map f ps)) (has_edge e (flat_map h ps))
     ∙ ap (λ b. b || (has_edge e (h p) || has_edge e (flat_map h ps))) (sym (has_edge-append e (f p) (flat_map f ps)))
     ∙ ap (λ b. has_edge e (flat_map f (p ∷ ps)) || b) (sym (has_edge-append e (h p) (flat_map h ps)))
-  where
-    swap : (a b c d : Bool) → (a || b) || (c || d) ≡ (a || c) || (b || d)
-    swap a b c d = grind (arith, nat_tests)
 
 -- how often a number is in two lists of each range
 pub times_joined : (v : ℕ) (f h : Part → List ℕ) (ps : List Part) → times v (flat_map (λ p. f p ++ h p) ps) ≡ times v (flat_map f ps) + times v (flat_map h ps)
 times_joined v f h [] = refl
-times_joined v f h (p ∷ ps) = omega (
-  arith,
-  times-append v (f p ++ h p) (flat_map (λ q. f q ++ h q) ps),
-  times-append v (f p) (h p),
-  times-append v (f p) (flat_map f ps),
-  times-append v (h p) (flat_map h ps),
-  times_joined v f h ps,
-)
-
--- no number is twice in a list of distinct numbers, and conversely
-pub distinct_times : (v : ℕ) (xs : List ℕ) → AreDistinct xs → times v xs ≤ 1
-distinct_times v [] once = omega arith
-distinct_times v (x ∷ xs) once = elim (cases_eq x v) [
-  | inl e ↦ omega (arith, ap (λ k. times k xs) e, times_none x xs once.0, small (eqb x v))
-  | inr ne ↦ omega (arith, distinct_times v xs once.1, ap {B = ℕ} (λ b. cond b 1 0) (off x v ne))
-]
-  where
-    small : (b : Bool) → cond b 1 0 ≤ 1
-    small true = omega arith
-    small false = omega arith
-
-    off : (a b : ℕ) → a ≢ b → eqb a b ≡ false
-    off a b ne = grind (arith, nat_tests, ne)
-
-pub times_distinct : (xs : List ℕ) → ((v : ℕ) → times v xs ≤ 1) → AreDistinct xs
-times_distinct [] once = record {}
-times_distinct (x ∷ xs) once = (
-  elim (cases_Bool (has_number x xs)) [
-    | inr none ↦ none
-    | inl there ↦ absurd (omega (arith, once x, times_there x xs there, ap {B = ℕ} (λ b. cond b 1 0) (on x)))
-  ],
-  times_distinct xs (λ v. omega (arith, once v)),
-)
-  where
-    on : (a : ℕ) → eqb a a ≡ true
-    on a = grind (arith, nat_tests)
+times_joined v f h (p ∷ ps) = grind (arith, nat_tests, times_joined v f h ps, times-append)
 
 -- how often a pair is in a list
 abbrev pub copies : Pair → List Pair → ℕ
@@ -173,19 +164,12 @@ pub copies_there : (e : Pair) (es : List Pair) → has_edge e es ≡ true → 1 
 copies_there e [] there = absurd (true≢false (sym there))
 copies_there e (f ∷ fs) there = elim (cases_Bool (same_edge e f)) [
   | inl same ↦ omega (arith, ap {B = ℕ} (λ b. cond b 1 0) same)
-  | inr other ↦ omega (arith, copies_there e fs (either (same_edge e f) (has_edge e fs) there other))
+  | inr other ↦ omega (arith, copies_there e fs (or_either (same_edge e f) (has_edge e fs) there other))
 ]
 
 pub apart_copies : (e : Pair) (es : List Pair) → AreApart es → copies e es ≤ 1
 apart_copies e [] apart = omega arith
-apart_copies e (f ∷ fs) apart = elim (cases_Bool (same_edge e f)) [
-  | inr other ↦ omega (arith, ap {B = ℕ} (λ b. cond b 1 0) other, apart_copies e fs apart.1)
-  | inl same ↦ omega (arith, ap {B = ℕ} (λ b. cond b 1 0) same, copies_none e fs (rest fs same ∙ apart.0))
-]
-  where
-    rest : (gs : List Pair) → same_edge e f ≡ true → has_edge e gs ≡ has_edge f gs
-    rest [] same = refl
-    rest (h ∷ hs) same = grind (arith, nat_tests, same, rest hs same)
+apart_copies e (f ∷ fs) apart = grind (arith, nat_tests, apart_copies e fs apart.1, copies_none, apart.1, apart.0)
 
 pub copies_apart : (es : List Pair) → ((e : Pair) → copies e es ≤ 1) → AreApart es
 copies_apart [] once = record {}
@@ -202,14 +186,7 @@ copies_apart (f ∷ fs) once = (
 
 pub copies_joined : (e : Pair) (f h : Part → List Pair) (ps : List Part) → copies e (flat_map (λ p. f p ++ h p) ps) ≡ copies e (flat_map f ps) + copies e (flat_map h ps)
 copies_joined e f h [] = refl
-copies_joined e f h (p ∷ ps) = omega (
-  arith,
-  copies-append e (f p ++ h p) (flat_map (λ q. f q ++ h q) ps),
-  copies-append e (f p) (h p),
-  copies-append e (f p) (flat_map f ps),
-  copies-append e (h p) (flat_map h ps),
-  copies_joined e f h ps,
-)
+copies_joined e f h (p ∷ ps) = grind (arith, nat_tests, copies_joined e f h ps, copies-append)
 
 -- pairs that are apart in all lists are apart in each
 pub copies_part : (e : Pair) (f : Part → List Pair) (ps : List Part) (j : ℕ) → j < length ps → copies e (f (get_or ps j no_part)) ≤ copies e (flat_map f ps)
@@ -227,4 +204,4 @@ times_part_of v f (p ∷ ps) zero at = omega (arith, times-append v (f p) (flat_
 times_part_of v f (p ∷ ps) (suc j) at = omega (arith, times-append v (f p) (flat_map f ps), times_part_of v f ps j (omega (arith, at)))
 
 pub distinct_part : (f : Part → List ℕ) (ps : List Part) (j : ℕ) → j < length ps → AreDistinct (flat_map f ps) → AreDistinct (f (get_or ps j no_part))
-distinct_part f ps j at once = times_distinct (f (get_or ps j no_part)) (λ v. omega (arith, times_part_of v f ps j at, distinct_times v (flat_map f ps) once))
+distinct_part f ps j at once = distinct_times (f (get_or ps j no_part)) (λ v. omega (arith, times_part_of v f ps j at, times_distinct v (flat_map f ps) once))

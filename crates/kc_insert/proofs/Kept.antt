@@ -1,8 +1,9 @@
 -- How ranges keep the vertices that rise, while the sweep goes to another level or looks anew.
 use Rattle.std.proofs.Common.{ℕ, ◌≤◌, ◌<◌, ◌≡◌, inl, inr, true, List, [], length, filter, refl, ap, sym, ◌∙◌, arith}
 use Rattle.std.specs.Prelude.{All}
-use Rattle.std.proofs.lemmas.Bool.{cases_lt, cases_Bool, true≢false}
+use Rattle.std.proofs.lemmas.Bool.{and_right, cases_Bool, cases_lt, true≢false}
 use Rattle.std.proofs.lemmas.List.{get_or_past}
+use Rattle.std.proofs.lemmas.Bool.Decides.{nat_tests}
 use Rattle.kc_graph.specs.Numbers.{has_number}
 use Rattle.kc_graph.specs.Shape.{GraphShape, IsGraph}
 use Rattle.kc_levels.specs.declared.profile.Profile.{Profile}
@@ -18,7 +19,7 @@ use Rattle.kc_insert.proofs.Joined.{joined_of}
 use Rattle.kc_insert.proofs.Members.{filter_agree}
 use Rattle.kc_insert.proofs.SweepSame.{same_paid, same_sweeping}
 use Rattle.kc_insert.proofs.Sweeps.{sweeping_on}
-use Rattle.kc_insert.proofs.Tests.{and_left, and_off}
+use Rattle.kc_insert.proofs.Tests.{and_on}
 use Rattle.kc_insert.proofs.Together.{paid_together, sweeping_together}
 
 -- a range that keeps a vertex is there
@@ -34,8 +35,8 @@ kept_at s r kept v up =
 -- the vertices that rise are those in the list
 pub kept_listed : (s : RisingLevels) (r : Cut) → AreKept s r → (v : ℕ) → has_number v (filter (rises s) (all_began r)) ≡ rises s v
 kept_listed s r kept v = has_number-filter v (rises s) (all_began r) ∙ elim (cases_Bool (rises s v)) [
-  | inl up ↦ and_left (has_number v (all_began r)) (rises s v) (kept_at s r kept v up).1
-  | inr none ↦ and_off (has_number v (all_began r)) (rises s v) none ∙ sym none
+  | inl up ↦ and_on (has_number v (all_began r)) (rises s v) (kept_at s r kept v up).1
+  | inr none ↦ and_right (has_number v (all_began r)) (rises s v) none ∙ sym none
 ]
 
 -- the sweep goes to another level
@@ -83,13 +84,7 @@ went_on_paid p g x s t r first now order same goes none paid = same_paid g x (re
 
 -- no watch list has a vertex: all that rise count many
 pub all_over : (s : RisingLevels) (r : Cut) (most : ℕ) → AreKept s r → HasLimit most r → All (λ (q : Part). q.watch.doubtful ≡ []) r.parts → (v : ℕ) → has_number v (filter (rises s) (all_began r)) ≡ true → most < count_of r v
-all_over s r most kept limit clear v there =
-    let up : rises s v ≡ true = sym (kept_listed s r kept v) ∙ there in
-    let at = (kept_at s r kept v up).0 in
-    elim (cases_lt most (count_of r v)) [
-      | inl over ↦ over
-      | inr low ↦ absurd (true≢false (sym (kept.few v up (omega (arith, low, limit (range_of r.bits v) at))) ∙ ap (has_number v) (clear (range_of r.bits v) no_part at)))
-    ]
+all_over s r most kept limit clear v there = grind (arith, nat_tests, kept_listed, kept_at, true≢false, kept.few)
 
 -- all that rise go to a level together
 pub went_together : (p : Profile) (g : GraphShape) (x : List ℕ) (s t : RisingLevels) (r : Cut) → IsGraph g → AreInOrder p g s r → HasLimit (high p (group_of p g.vertices s.level)) r → All (λ (q : Part). q.watch.doubtful ≡ []) r.parts → ((v : ℕ) → rises t v ≡ rises s v) → ((risers : List ℕ) → ((v : ℕ) → rises s v ≡ has_number v risers) → seen t ≡ all_at (seen s) risers t.level) → s.level ≤ t.level → IsFree s.level t.level (waits r) (meets r) → ((k : ℕ) → s.level ≤ k → k < t.level → group_of p g.vertices k ≡ group_of p g.vertices s.level) → IsSweeping p g x (sweeping_of s r) → IsSweeping p g x (sweeping_of t r)

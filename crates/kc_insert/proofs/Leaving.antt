@@ -1,7 +1,7 @@
 -- How the counts follow where a riser goes on and leaves a neighbour behind that it was to meet, and what the others are told.
 use Rattle.std.proofs.Common.{ℕ, suc, zero, subst, ◌+◌, ◌-◌, ◌≤◌, ◌<◌, ◌≡◌, ◌≢◌, inl, inr, Bool, true, false, cond, eqb, ◌&&◌, List, [], ◌∷◌, ◌++◌, length, get_or, set, map, take, drop, ap, sym, ◌∙◌, arith}
 use Rattle.std.specs.Prelude.{filter}
-use Rattle.std.proofs.lemmas.Bool.{cases_eq, cases_Bool}
+use Rattle.std.proofs.lemmas.Bool.{cases_eq}
 use Rattle.std.proofs.lemmas.Bool.Decides.{nat_tests}
 use Rattle.std.proofs.lemmas.List.{append-nil, map-append, take-append-drop}
 use Rattle.std.proofs.lemmas.List.Elements.{filter_more, filter-append}
@@ -10,9 +10,9 @@ use Rattle.kc_insert.specs.private.Crossing.{Crossing, left_at}
 use Rattle.kc_insert.specs.private.Rising.{rises, seen}
 use Rattle.kc_insert.specs.private.Telling.{times}
 use Rattle.kc_insert.specs.private.Watched.{count_at, StayWatched}
-use Rattle.kc_insert.specs.Ranges.{IsHeld, Watch}
-use Rattle.kc_insert.proofs.Adding.{times-append}
-use Rattle.kc_insert.proofs.Watching.{watched_same, watched_on, count_here, count_other}
+use Rattle.kc_insert.specs.Ranges.{HasVertex, Watch}
+use Rattle.kc_insert.proofs.Adding.{times-append, times_another, times_own}
+use Rattle.kc_insert.proofs.Watching.{watched_on, count_here, count_other}
 
 pub has_edge_at : (items : List Pair) (i : ℕ) (d e : Pair) → i < length items → e ≡ get_or items i d → has_edge e items ≡ true
 has_edge_at [] i d e at item = absurd (omega arith)
@@ -46,49 +46,36 @@ pub record IsLessBy (xs : List ℕ) (a b : Watch) : Type 0 where
   pub watched : StayWatched a b
   pub less : (v : ℕ) → a.first ≤ v → count_at b v + times v xs ≡ count_at a v
 
-pub less_by_none : (a : Watch) → IsLessBy [] a a
-less_by_none a = record { watched = watched_same a; less = λ v from. omega arith }
-
-pub less_by_more : (xs : List ℕ) (v : ℕ) (a b c : Watch) → IsHeld a v → 1 ≤ count_at b v → IsLessBy xs a b → c.counts ≡ set b.counts (v - b.first) (count_at b v - 1) → StayWatched b c → IsLessBy (xs ++ v ∷ []) a c
+pub less_by_more : (xs : List ℕ) (v : ℕ) (a b c : Watch) → HasVertex a v → 1 ≤ count_at b v → IsLessBy xs a b → c.counts ≡ set b.counts (v - b.first) (count_at b v - 1) → StayWatched b c → IsLessBy (xs ++ v ∷ []) a c
 less_by_more xs v a b c was some s is t = record {
   watched = watched_on a b c s.watched t;
   less = λ u from. elim (cases_eq u v) [
-    | inl e ↦ rw e (omega (arith, count_here b c v (count_at b v - 1) held t.first is, some, one, s.less v was.from))
-    | inr ne ↦ omega (arith, count_other b c v (count_at b v - 1) held t.first is u (omega (arith, from, s.watched.first)) ne, s.less u from, none u ne)
+    | inl e ↦ rw e (omega (arith, count_here b c v (count_at b v - 1) held t.first is, some, times_own v xs, s.less v was.from))
+    | inr ne ↦ omega (arith, count_other b c v (count_at b v - 1) held t.first is u (omega (arith, from, s.watched.first)) ne, s.less u from, times_another v u xs ne)
   ];
 }
   where
-    held : IsHeld b v
+    held : HasVertex b v
     held = record { from = omega (arith, was.from, s.watched.first); below = omega (arith, was.below, s.watched.first, s.watched.sized) }
 
-    one : times v (xs ++ v ∷ []) ≡ times v xs + 1
-    one = times-append v xs (v ∷ []) ∙ grind (arith, nat_tests)
-
-    none : (u : ℕ) → u ≢ v → times u (xs ++ v ∷ []) ≡ times u xs
-    none u ne = times-append u xs (v ∷ []) ∙ grind (arith, nat_tests, ne)
-
-pub less_by_held : (xs : List ℕ) (v : ℕ) (a b : Watch) → IsHeld a v → IsLessBy xs a b → IsHeld b v
+pub less_by_held : (xs : List ℕ) (v : ℕ) (a b : Watch) → HasVertex a v → IsLessBy xs a b → HasVertex b v
 less_by_held xs v a b was s = record { from = omega (arith, was.from, s.watched.first); below = omega (arith, was.below, s.watched.first, s.watched.sized) }
 
 pub less_by_some : (xs ys : List ℕ) (v : ℕ) (a b : Watch) → a.first ≤ v → IsLessBy xs a b → times v (xs ++ v ∷ []) ≤ times v ys → times v ys ≤ count_at a v → 1 ≤ count_at b v
 less_by_some xs ys v a b from s part enough =
-    let one : times v (xs ++ v ∷ []) ≡ times v xs + 1 = times-append v xs (v ∷ []) ∙ grind (arith, nat_tests) in
-    omega (arith, s.less v from, one, part, enough)
+    omega (arith, s.less v from, times_own v xs, part, enough)
 
 -- whether the riser goes on and the other stays
 abbrev pub stays_behind : Crossing → Pair → Bool
 stays_behind step e = rises step.levels e.0 && eqb (get_or (seen step.levels) e.1 0) step.level
 
 -- the step of a loop at place i of the meetings, where v and w stand
-module _ (step : Crossing) (met : List Pair) (i : ℕ) (d : Pair) (v w : ℕ) (at : i < length met) (item : ◌≡◌ {A = Pair} (v, w) (get_or met i d)) (a b : Watch) (held : IsHeld a v) (enough : (u : ℕ) → times u (left_at step met) ≤ count_at a u) (s : IsLessBy (left_at step (take i met)) a b) where
+module _ (step : Crossing) (met : List Pair) (i : ℕ) (d : Pair) (v w : ℕ) (at : i < length met) (item : ◌≡◌ {A = Pair} (v, w) (get_or met i d)) (a b : Watch) (held : HasVertex a v) (enough : (u : ℕ) → times u (left_at step met) ≤ count_at a u) (s : IsLessBy (left_at step (take i met)) a b) where
   both : (p : Bool) (x l : ℕ) → p ≡ true → x ≡ l → p && eqb x l ≡ true
   both p x l e f = grind (arith, nat_tests, e, f)
 
   neither : (p : Bool) (x l : ℕ) → (p ≡ true → x ≢ l) → p && eqb x l ≡ false
-  neither p x l off = elim (cases_Bool p) [
-    | inl yes_ ↦ let ne = off yes_ in grind (arith, nat_tests, yes_, ne)
-    | inr no_ ↦ grind (arith, nat_tests, no_)
-  ]
+  neither p x l off = grind (arith, nat_tests)
 
   left_next : rises step.levels v ≡ true → get_or (seen step.levels) w 0 ≡ step.level → left_at step (take (i + 1) met) ≡ left_at step (take i met) ++ v ∷ []
   left_next up stays = ends_yes (λ (e : Pair). e.0) (stays_behind step) met i d (v, w) at item (both _ _ _ up stays)

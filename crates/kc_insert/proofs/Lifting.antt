@@ -1,16 +1,12 @@
--- Some vertices of one level that come to the next, and vertices that are put on their new levels.
-use Rattle.std.proofs.Common.{ℕ, suc, ◌+◌, ◌≤◌, ◌<◌, ◌≡◌, ◌≢◌, ◌⊎◌, inl, inr, true, false, List, [], ◌∷◌, ◌++◌, length, get_or, set, drop, add-one, refl, ap, sym, ◌∙◌, arith, subst}
-use Rattle.std.proofs.lemmas.Bool.{cases_eq, cases_lt, cases_Bool, true≢false}
+-- Some vertices of one level come to the next.
+use Rattle.std.proofs.Common.{ℕ, ◌+◌, ◌≤◌, ◌<◌, ◌≡◌, ◌≢◌, inl, inr, true, false, List, [], ◌∷◌, ◌++◌, length, get_or, set, refl, ap, sym, ◌∙◌, arith, subst}
+use Rattle.std.proofs.lemmas.Bool.{cases_Bool, true≢false}
 use Rattle.std.proofs.lemmas.Bool.Decides.{nat_tests}
-use Rattle.std.proofs.lemmas.List.{length-set, get_or-set_same, get_or-set_other, drop_all, get_or_past}
-use Rattle.std.proofs.lemmas.Grind.{same_number_lists}
-use Rattle.std.proofs.Math.Seq.{drop-cons}
+use Rattle.std.proofs.lemmas.List.{length-set, get_or-set_same, get_or-set_other}
 use Rattle.kc_graph.specs.Numbers.{has_number}
-use Rattle.kc_graph.specs.Shape.{GraphShape}
 use Rattle.kc_graph.proofs.lemmas.Numbers.{has_number_at, has_number_index, has_number-push}
-use Rattle.kc_levels.specs.LevelList.{IsBelow}
-use Rattle.kc_adj.specs.LeveledGraph.{LeveledGraph}
 use Rattle.kc_levels.specs.Following.{AreDistinct}
+use Rattle.kc_levels.proofs.lemmas.Moves.{distinct_push}
 use Rattle.kc_insert.specs.private.Rising.{all_at}
 use Rattle.kc_insert.proofs.Buckets.{pushed_is, has_last}
 
@@ -20,9 +16,7 @@ length-all_at y (v ∷ vs) k = length-all_at (set y v k) vs k ∙ length-set y v
 
 pub all_at_other : (y vs : List ℕ) (k u : ℕ) → has_number u vs ≡ false → get_or (all_at y vs k) u 0 ≡ get_or y u 0
 all_at_other y [] k u none = refl
-all_at_other y (v ∷ vs) k u none =
-    let other : u ≢ v = λ e. true≢false (sym (grind (arith, nat_tests, e)) ∙ none) in
-    all_at_other (set y v k) vs k u (grind (arith, nat_tests, none)) ∙ get_or-set_other y v u k 0 other
+all_at_other y (v ∷ vs) k u none = grind (arith, nat_tests, all_at_other (set y v k) vs k u (grind (arith, nat_tests, none)), true≢false, get_or-set_other)
 
 pub all_at_here : (y vs : List ℕ) (k u : ℕ) → u < length y → has_number u vs ≡ true → get_or (all_at y vs k) u 0 ≡ k
 all_at_here y [] k u inside there = absurd (true≢false (sym there))
@@ -36,13 +30,6 @@ all_at_here y (v ∷ vs) k u inside there = elim (cases_Bool (has_number u vs)) 
 pub all_at-push : (y vs : List ℕ) (k v : ℕ) → all_at y (vs ++ v ∷ []) k ≡ set (all_at y vs k) v k
 all_at-push y [] k v = refl
 all_at-push y (w ∷ vs) k v = all_at-push (set y w k) vs k v
-
-pub distinct-push : (vs : List ℕ) (v : ℕ) → AreDistinct vs → has_number v vs ≡ false → AreDistinct (vs ++ v ∷ [])
-distinct-push [] v d none = (refl, record {})
-distinct-push (w ∷ vs) v d none = (
-  has_number-push w v vs ∙ grind (arith, nat_tests, d.0, none),
-  distinct-push vs v d.1 (grind (arith, nat_tests, none)),
-)
 
 -- of the vertices in the list, all of which are on the level l by y, those before the place i came to the next, each once
 pub record IsLiftingOff (y vertices : List ℕ) (l i : ℕ) (z lifted : List ℕ) : Type 0 where
@@ -70,16 +57,13 @@ module _ (y vertices : List ℕ) (l i : ℕ) (z lifted : List ℕ) (at : i < len
   lifting_inside = rw (s.levels, length-all_at y lifted (l + 1)) (inside item listed)
 
   up_to : (more : List ℕ) → ((u : ℕ) → has_number u lifted ≡ true → has_number u more ≡ true) → has_number item more ≡ true → (j : ℕ) → j < i + 1 → has_number (get_or vertices j 0) more ≡ true
-  up_to more keeps last j h = elim (cases_eq j i) [
-    | inl e ↦ ap (λ t. has_number (get_or vertices t 0) more) e ∙ last
-    | inr ne ↦ keeps (get_or vertices j 0) (s.done j (omega (arith, h, ne)))
-  ]
+  up_to more keeps last j h = grind (arith, nat_tests, s.done)
 
   -- it is on the level still
   pub lifting_comes : get_or z item 0 ≡ l → IsLiftingOff y vertices l (i + 1) (set z item (l + 1)) (lifted ++ item ∷ [])
   lifting_comes on = record {
     levels = ap (λ t. set t item (l + 1)) s.levels ∙ sym (all_at-push y lifted (l + 1) item);
-    distinct = distinct-push lifted item s.distinct fresh;
+    distinct = distinct_push lifted item s.distinct fresh;
     from = λ u there. elim (pushed_is u item lifted there) [ inl e ↦ ap (λ t. has_number t vertices) e ∙ listed | inr old ↦ s.from u old ];
     done = up_to (lifted ++ item ∷ []) (λ u there. has_number-push u item lifted ∙ grind (arith, nat_tests, there)) (has_last item lifted);
   }
@@ -105,65 +89,4 @@ module _ (y vertices : List ℕ) (l i : ℕ) (z lifted : List ℕ) (at : i < len
   }
 
 pub lifting_same : (y vertices : List ℕ) (l i : ℕ) (z lifted : List ℕ) → length vertices ≤ i → IsLiftingOff y vertices l i z lifted → (v : ℕ) → has_number v lifted ≡ has_number v vertices
-lifting_same y vertices l i z lifted end s v = elim (cases_Bool (has_number v vertices)) [
-  | inl listed ↦
-      let place = has_number_index v vertices listed in
-      ap (λ t. has_number t lifted) (sym place.2) ∙ s.done place.0 (omega (arith, place.1, end)) ∙ sym listed
-  | inr none ↦ elim (cases_Bool (has_number v lifted)) [
-    | inl there ↦ absurd (true≢false (sym (s.from v there) ∙ none))
-    | inr gone ↦ gone ∙ sym none
-  ]
-]
-
--- of the vertices that rose from x to y those in `rest` are still to be put on their new levels
-pub record IsLiftingAll (a b : LeveledGraph) (y rest : List ℕ) : Type 0 where
-  pub graph : b.graph ≡ a.graph
-  pub sized : length b.levels ≡ a.graph.vertices
-  pub each : (u : ℕ) → (get_or b.levels u 0 ≡ get_or y u 0) ⊎ ((get_or b.levels u 0 ≡ get_or a.levels u 0) × (has_number u rest ≡ true))
-
-pub lifting_all_first : (a : LeveledGraph) (y risen : List ℕ) → length a.levels ≡ a.graph.vertices → length y ≡ a.graph.vertices → IsBelow a.graph.vertices a.levels y → ((v : ℕ) → get_or a.levels v 0 < get_or y v 0 → has_number v risen ≡ true) → IsLiftingAll a a y risen
-lifting_all_first a y risen long sized above all = record {
-  graph = refl;
-  sized = long;
-  each = λ u. elim (cases_lt (get_or a.levels u 0) (get_or y u 0)) [
-    | inl lt ↦ inr (refl, all u lt)
-    | inr ge ↦ inl (elim (cases_lt u a.graph.vertices) [
-      | inl h ↦ omega (arith, ge, above u h)
-      | inr past ↦ get_or_past a.levels u 0 (omega (arith, past, long)) ∙ sym (get_or_past y u 0 (omega (arith, past, sized)))
-    ])
-  ];
-}
-
-module _ (a b : LeveledGraph) (y risen : List ℕ) (i : ℕ) (at : i < length risen) (vertices : (v : ℕ) → has_number v risen ≡ true → v < a.graph.vertices) (above : IsBelow a.graph.vertices a.levels y) (s : IsLiftingAll a b y (drop i risen)) where
-  abbrev pub riser : ℕ
-  riser = get_or risen i 0
-
-  pub all_vertex : riser < a.graph.vertices
-  all_vertex = vertices riser (has_number_at riser risen i at refl)
-
-  pub lifting_all_next : (c : LeveledGraph) → c ≡ record b { levels = set b.levels riser (get_or y riser 0) } → IsLiftingAll a c y (drop (i + 1) risen)
-  lifting_all_next c is = record {
-    graph = ap (λ (k : LeveledGraph). k.graph) is ∙ s.graph;
-    sized = ap (λ (k : LeveledGraph). length k.levels) is ∙ length-set b.levels riser (get_or y riser 0) ∙ s.sized;
-    each = λ u. rw (ap (λ (k : LeveledGraph). k.levels) is) (elim (cases_eq u riser) [
-      | inl e ↦ inl (ap (λ t. get_or (set b.levels riser (get_or y riser 0)) t 0) e ∙ get_or-set_same b.levels riser (get_or y riser 0) 0 (omega (arith, all_vertex, s.sized)) ∙ ap (λ t. get_or y t 0) (sym e))
-      | inr ne ↦
-          let same = get_or-set_other b.levels riser u (get_or y riser 0) 0 ne in
-          elim (s.each u) [
-            | inl done ↦ inl (same ∙ done)
-            | inr old ↦
-                let rest : has_number u (riser ∷ drop (suc i) risen) ≡ true = ap (λ vs. has_number u vs) (sym (drop-cons risen i 0 at)) ∙ old.1 in
-                inr (same ∙ old.0, rw add-one (grind (arith, nat_tests, rest, ne)))
-          ]
-    ]);
-  }
-
-pub lifting_all_last : (a b : LeveledGraph) (y risen : List ℕ) (i : ℕ) → length risen ≤ i → length y ≡ a.graph.vertices → IsLiftingAll a b y (drop i risen) → b ≡ record a { levels = y }
-lifting_all_last a b y risen i end sized s =
-    whole b.graph a.graph b.levels y s.graph (same_number_lists b.levels y (s.sized ∙ sym sized) (λ v h. elim (s.each v) [
-      | inl done ↦ omega (arith, done)
-      | inr old ↦ absurd (true≢false (sym old.1 ∙ ap (λ vs. has_number v vs) (drop_all i risen end)))
-    ]))
-  where
-    whole : (g h : GraphShape) (x z : List ℕ) → g ≡ h → x ≡ z → ◌≡◌ {A = LeveledGraph} (record { graph = g; levels = x }) (record { graph = h; levels = z })
-    whole g h x z e f = rw (e, f) refl
+lifting_same y vertices l i z lifted end s v = grind (arith, nat_tests, listed, has_number_index, true≢false, s.done, s.from)

@@ -4,16 +4,17 @@ use Rattle.std.proofs.lemmas.Bool.{cases_eq}
 use Rattle.std.proofs.lemmas.List.{length-append, length-replicate, length-take-le, length-drop, get_or-take, get_or-drop}
 use Rattle.std.proofs.Math.ListN.{get_or-append}
 use Rattle.std.proofs.Math.Seq.{get_or-append_seam}
-use Rattle.kc_insert.specs.Ranges.{IsHeld, no_part, Part, range_of, Tell}
+use Rattle.std.proofs.lemmas.Bool.Decides.{nat_tests}
+use Rattle.kc_insert.specs.Ranges.{HasVertex, no_part, Part, range_of, Tell}
 use Rattle.kc_insert.specs.private.Ranges.{AreNew, new_part}
 use Rattle.kc_insert.specs.private.Watched.{count_at}
 
 -- the range at a place, of the vertices with these counts
 pub record IsMade (bits : ℕ) (counts : List ℕ) (levels ranges j : ℕ) (p : Part) : Type 0 where
   pub value : p ≡ new_part levels ranges p.watch.first p.watch.counts
-  pub own : (v : ℕ) → IsHeld p.watch v → (v < length counts) × (range_of bits v ≡ j)
-  pub held : (v : ℕ) → v < length counts → range_of bits v ≡ j → IsHeld p.watch v
-  pub same : (v : ℕ) → IsHeld p.watch v → count_at p.watch v ≡ get_or counts v 0
+  pub own : (v : ℕ) → HasVertex p.watch v → (v < length counts) × (range_of bits v ≡ j)
+  pub held : (v : ℕ) → v < length counts → range_of bits v ≡ j → HasVertex p.watch v
+  pub same : (v : ℕ) → HasVertex p.watch v → count_at p.watch v ≡ get_or counts v 0
 
 -- the first i ranges are made
 pub record IsMaking (bits : ℕ) (counts : List ℕ) (levels ranges i : ℕ) (items : List Part) (told : List Tell) : Type 0 where
@@ -22,29 +23,9 @@ pub record IsMaking (bits : ℕ) (counts : List ℕ) (levels ranges i : ℕ) (it
   pub each : (j : ℕ) (d : Part) → j < i → IsMade bits counts levels ranges j (get_or items j d)
   pub lists : (j : ℕ) (d : Tell) → j < i → get_or told j d ≡ record { all = []; lists = replicate ranges [] }
 
-pub making_first : (bits : ℕ) (counts : List ℕ) (levels ranges : ℕ) → IsMaking bits counts levels ranges 0 [] []
-making_first bits counts levels ranges = record {
-  long = refl;
-  tells = refl;
-  each = λ j d h. absurd (omega (arith, h));
-  lists = λ j d h. absurd (omega (arith, h));
-}
-
 -- the range of the vertices from `first` to `end`
 pub made : (bits : ℕ) (counts : List ℕ) (levels ranges j first end : ℕ) (part : List ℕ) (p : Part) → p ≡ new_part levels ranges first part → part ≡ take (end - first) (drop first counts) → first ≤ end → end ≤ length counts → ((v : ℕ) → v < length counts → range_of bits v ≡ j → (first ≤ v) × (v < end)) → ((v : ℕ) → first ≤ v → v < end → range_of bits v ≡ j) → IsMade bits counts levels ranges j p
-made bits counts levels ranges j first end part p is of order within inside own = rw is (record {
-  value = refl;
-  own = λ v held. (omega (arith, held.below, long, within), own v held.from (omega (arith, held.below, long)));
-  held = λ v h here. let it = inside v h here in record { from = it.0; below = omega (arith, it.0, it.1, long) };
-  same = λ v held.
-      ap (λ (xs : List ℕ). get_or xs (v - first) 0) of
-      ∙ get_or-take (end - first) (drop first counts) (v - first) 0 (omega (arith, held.from, held.below, long))
-      ∙ get_or-drop first counts (v - first) 0
-      ∙ ap (λ k. get_or counts k 0) (omega (arith, held.from));
-})
-  where
-    long : length part ≡ end - first
-    long = ap length of ∙ length-take-le (end - first) (drop first counts) (omega (arith, length-drop first counts, order, within))
+made bits counts levels ranges j first end part p is of order within inside own = grind (arith, nat_tests, get_or-take, get_or-drop, length-take-le, length-drop)
 
 module _ (bits : ℕ) (counts : List ℕ) (levels ranges i : ℕ) (items : List Part) (told : List Tell) (s : IsMaking bits counts levels ranges i items told) where
   pub making_next : (p : Part) (t : Tell) → IsMade bits counts levels ranges i p → t ≡ record { all = []; lists = replicate ranges [] } → IsMaking bits counts levels ranges (i + 1) (items ++ p ∷ []) (told ++ t ∷ [])

@@ -7,7 +7,7 @@ use Rattle.kc_graph.specs.Numbers.{has_number}
 use Rattle.kc_graph.proofs.lemmas.Numbers.{has_number_at, has_number-append}
 use Rattle.kc_insert.specs.private.Telling.{times}
 use Rattle.kc_insert.specs.private.Watched.{count_at}
-use Rattle.kc_insert.specs.Ranges.{IsHeld, Part}
+use Rattle.kc_insert.specs.Ranges.{HasVertex, Part}
 use Rattle.kc_insert.specs.private.Parts.{HaveMet}
 use Rattle.std.proofs.Math.Seq.{take-suc}
 use Rattle.kc_insert.proofs.Adding.{times-append, times_more, times_part}
@@ -53,7 +53,7 @@ met_on level most xs ys a b c s t = record {
     first = ap (λ (p : Part). p.watch.first) s.part
 
 -- v counts one more, and waits if it had `most`
-module _ (level most v : ℕ) (a b : Part) (held : IsHeld a.watch v) (room : level < length a.queue) (is : b ≡ record a { watch = record a.watch { counts = set a.watch.counts (v - a.watch.first) (count_at a.watch v + 1) }; queue = cond (eqb (count_at a.watch v) most) (set a.queue level (get_or a.queue level [] ++ v ∷ [])) a.queue }) where
+module _ (level most v : ℕ) (a b : Part) (held : HasVertex a.watch v) (room : level < length a.queue) (is : b ≡ record a { watch = record a.watch { counts = set a.watch.counts (v - a.watch.first) (count_at a.watch v + 1) }; queue = cond (eqb (count_at a.watch v) most) (set a.queue level (get_or a.queue level [] ++ v ∷ [])) a.queue }) where
   counts : b.watch.counts ≡ set a.watch.counts (v - a.watch.first) (count_at a.watch v + 1)
   counts = ap (λ (p : Part). p.watch.counts) is
 
@@ -120,14 +120,14 @@ module _ (level most v : ℕ) (a b : Part) (held : IsHeld a.watch v) (room : lev
       none u ne = grind (arith, nat_tests, ne)
 
 -- the step of a loop at place i
-module _ (level most i : ℕ) (xs : List ℕ) (a b : Part) (at : i < length xs) (held : (v : ℕ) → has_number v xs ≡ true → IsHeld a.watch v) (s : HaveMet level most (take i xs) a b) where
+module _ (level most i : ℕ) (xs : List ℕ) (a b : Part) (at : i < length xs) (held : (v : ℕ) → has_number v xs ≡ true → HasVertex a.watch v) (s : HaveMet level most (take i xs) a b) where
   begun : b.watch.first ≡ a.watch.first
   begun = ap (λ (p : Part). p.watch.first) s.part
 
-  was : IsHeld a.watch (get_or xs i 0)
+  was : HasVertex a.watch (get_or xs i 0)
   was = held (get_or xs i 0) (has_number_at (get_or xs i 0) xs i at refl)
 
-  pub met_held : IsHeld b.watch (get_or xs i 0)
+  pub met_held : HasVertex b.watch (get_or xs i 0)
   met_held = record { from = omega (arith, was.from, begun); below = omega (arith, was.below, begun, s.sized) }
 
   pub met_small : (most_of : ℕ) → ((v : ℕ) → count_at a.watch v + times v xs ≤ most_of) → count_at b.watch (get_or xs i 0) < most_of

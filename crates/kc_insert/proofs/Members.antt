@@ -1,13 +1,14 @@
--- Lists of the same numbers.
-use Rattle.std.proofs.Common.{ℕ, ◌+◌, ◌≡◌, ◌≢◌, inl, inr, Bool, true, false, eqb, not, ◌&&◌, ◌||◌, List, [], ◌∷◌, ◌++◌, length, filter, refl, ap, sym, ◌∙◌, arith}
-use Rattle.std.proofs.lemmas.Bool.{cases_eq, cases_Bool, true≢false}
+-- Lists of the same numbers, and of distinct ones.
+use Rattle.std.proofs.Common.{ℕ, ◌+◌, ◌≡◌, ◌≢◌, inl, inr, Bool, true, false, eqb, not, ◌&&◌, ◌||◌, List, [], ◌∷◌, ◌++◌, length, filter, refl, ap, sym, ◌∙◌, arith, suc, zero, ◌≤◌, ◌<◌, cond}
+use Rattle.std.proofs.lemmas.Bool.{cases_eq, true≢false}
 use Rattle.std.proofs.lemmas.Bool.Decides.{nat_tests}
-use Rattle.kc_graph.specs.Numbers.{has_number}
+use Rattle.kc_graph.specs.Numbers.{has_number, RisesFrom}
 use Rattle.kc_graph.specs.Shape.{GraphShape, neighbours_of}
-use Rattle.kc_graph.proofs.lemmas.Numbers.{has_number-append}
+use Rattle.kc_graph.proofs.lemmas.Numbers.{has_number-append, has_number_below}
 use Rattle.kc_levels.specs.Following.{AreDistinct}
 use Rattle.kc_adj.specs.Degrees.{degrees}
 use Rattle.kc_insert.proofs.Buckets.{has_number-filter}
+use Rattle.kc_insert.proofs.Across.{distinct_both}
 
 pub filter_yes : (p : ℕ → Bool) (v : ℕ) (vs : List ℕ) → p v ≡ true → filter p (v ∷ vs) ≡ v ∷ filter p vs
 filter_yes p v vs e = grind (arith, nat_tests, e)
@@ -18,28 +19,11 @@ filter_no p v vs e = grind (arith, nat_tests, e)
 -- tests that agree on the numbers of a list keep the same of them
 pub filter_agree : (p q : ℕ → Bool) (vs : List ℕ) → ((v : ℕ) → has_number v vs ≡ true → p v ≡ q v) → filter p vs ≡ filter q vs
 filter_agree p q [] same = refl
-filter_agree p q (v ∷ vs) same =
-    let rest : filter p vs ≡ filter q vs = filter_agree p q vs (λ u there. same u (grind (arith, nat_tests, there))) in
-    let here : p v ≡ q v = same v (grind (arith, nat_tests)) in
-    elim (cases_Bool (q v)) [
-      | inl yes_ ↦ filter_yes p v vs (here ∙ yes_) ∙ ap (λ us. v ∷ us) rest ∙ sym (filter_yes q v vs yes_)
-      | inr no_ ↦ filter_no p v vs (here ∙ no_) ∙ rest ∙ sym (filter_no q v vs no_)
-    ]
+filter_agree p q (v ∷ vs) same = grind (arith, nat_tests, filter_agree p q vs (λ u there. same u (grind (arith, nat_tests, there))), filter_yes, filter_no)
 
 pub filter_all : (p : ℕ → Bool) (vs : List ℕ) → ((v : ℕ) → has_number v vs ≡ true → p v ≡ true) → filter p vs ≡ vs
 filter_all p [] all = refl
 filter_all p (v ∷ vs) all = filter_yes p v vs (all v (grind (arith, nat_tests))) ∙ ap (λ us. v ∷ us) (filter_all p vs (λ u there. all u (grind (arith, nat_tests, there))))
-
--- one test after another
-pub filter_both : (p q : ℕ → Bool) (vs : List ℕ) → filter p (filter q vs) ≡ filter (λ v. q v && p v) vs
-filter_both p q [] = refl
-filter_both p q (v ∷ vs) = elim (cases_Bool (q v)) [
-  | inr no_ ↦ ap (filter p) (filter_no q v vs no_) ∙ filter_both p q vs ∙ sym (filter_no (λ u. q u && p u) v vs (grind (arith, nat_tests, no_)))
-  | inl yes_ ↦ ap (filter p) (filter_yes q v vs yes_) ∙ elim (cases_Bool (p v)) [
-    | inl on ↦ filter_yes p v (filter q vs) on ∙ ap (λ us. v ∷ us) (filter_both p q vs) ∙ sym (filter_yes (λ u. q u && p u) v vs (grind (arith, nat_tests, yes_, on)))
-    | inr off ↦ filter_no p v (filter q vs) off ∙ filter_both p q vs ∙ sym (filter_no (λ u. q u && p u) v vs (grind (arith, nat_tests, yes_, off)))
-  ]
-]
 
 pub none_in : (vs : List ℕ) → ((v : ℕ) → has_number v vs ≡ false) → vs ≡ []
 none_in [] none = refl
@@ -47,13 +31,7 @@ none_in (v ∷ vs) none = absurd (true≢false (sym (grind (arith, nat_tests)) �
 
 pub distinct_filter : (test : ℕ → Bool) (vs : List ℕ) → AreDistinct vs → AreDistinct (filter test vs)
 distinct_filter test [] d = record {}
-distinct_filter test (v ∷ vs) d = elim (cases_Bool (test v)) [
-  | inl yes_ ↦ rw (filter_yes test v vs yes_) (none, distinct_filter test vs d.1)
-  | inr no_ ↦ rw (filter_no test v vs no_) (distinct_filter test vs d.1)
-]
-  where
-    none : has_number v (filter test vs) ≡ false
-    none = has_number-filter v test vs ∙ ap (λ b. b && test v) d.0
+distinct_filter test (v ∷ vs) d = grind (arith, nat_tests, distinct_filter test vs d.1, filter_yes, filter_no, has_number-filter, d.1, d.0)
 
 pub distinct_append : (us vs : List ℕ) → AreDistinct us → AreDistinct vs → ((u : ℕ) → has_number u us ≡ true → has_number u vs ≡ false) → AreDistinct (us ++ vs)
 distinct_append [] vs d e apart = e
@@ -115,4 +93,53 @@ weigh_same f (v ∷ vs) us once too same =
 
 -- the numbers of one list are those of two others together
 pub weigh_parts : (f : ℕ → ℕ) (vs us ws : List ℕ) → AreDistinct vs → AreDistinct us → AreDistinct ws → ((v : ℕ) → has_number v us ≡ true → has_number v ws ≡ false) → ((v : ℕ) → has_number v vs ≡ has_number v us || has_number v ws) → weigh f vs ≡ weigh f us + weigh f ws
-weigh_parts f vs us ws once too three apart same = weigh_same f vs (us ++ ws) once (distinct_append us ws too three apart) (λ v. same v ∙ sym (has_number-append v us ws)) ∙ weigh-append f us ws
+weigh_parts f vs us ws once too three apart same = weigh_same f vs (us ++ ws) once (distinct_both us ws too three apart) (λ v. same v ∙ sym (has_number-append v us ws)) ∙ weigh-append f us ws
+
+pub rising_once : (k : ℕ) (vs : List ℕ) → RisesFrom k vs → AreDistinct vs
+rising_once k [] r = record {}
+rising_once k (v ∷ vs) r = (has_number_below (suc v) v vs r.1 (omega arith), rising_once (suc v) vs r.1)
+
+-- a pass over the neighbours of each vertex and one step more depend on the vertices, and not on their order
+pub same_fees : (g : GraphShape) (vs us : List ℕ) → AreDistinct vs → AreDistinct us → ((v : ℕ) → has_number v vs ≡ has_number v us) → degrees g vs + length vs ≡ degrees g us + length us
+same_fees g vs us once too same = omega (
+  arith,
+  sym (weigh_degrees g vs) ∙ weigh_same (λ v. length (neighbours_of v g.edges)) vs us once too same ∙ weigh_degrees g us,
+  sym (weigh_length vs) ∙ weigh_same (λ v. 1) vs us once too same ∙ weigh_length us,
+)
+
+-- distinct numbers below n are at most n
+without : ℕ → List ℕ → List ℕ
+without n xs = filter (λ v. not (eqb v n)) xs
+
+all_kept : (n : ℕ) (xs : List ℕ) → has_number n xs ≡ false → length (without n xs) ≡ length xs
+unfolding without
+all_kept n [] none = refl
+all_kept n (x ∷ xs) none =
+    let later = all_kept n xs (grind (arith, nat_tests, none)) in
+    let other : not (eqb x n) ≡ true = grind (arith, nat_tests, none) in
+    ap (λ b. length (cond b (x ∷ filter (λ v. not (eqb v n)) xs) (filter (λ v. not (eqb v n)) xs))) other ∙ omega (arith, later)
+
+most_kept : (n : ℕ) (xs : List ℕ) → AreDistinct xs → length xs ≤ length (without n xs) + 1
+unfolding without
+most_kept n [] once = omega arith
+most_kept n (x ∷ xs) once = elim (cases_eq x n) [
+  | inl e ↦
+      let all = all_kept n xs (ap (λ k. has_number k xs) (sym e) ∙ once.0) in
+      let same : not (eqb x n) ≡ false = grind (arith, nat_tests, e) in
+      rw same (omega (arith, all))
+  | inr ne ↦
+      let later = most_kept n xs once.1 in
+      let other : not (eqb x n) ≡ true = grind (arith, nat_tests, ne) in
+      rw other (omega (arith, later))
+]
+
+pub few_distinct : (n : ℕ) (xs : List ℕ) → AreDistinct xs → ((v : ℕ) → has_number v xs ≡ true → v < n) → length xs ≤ n
+unfolding without
+few_distinct zero [] once below = omega arith
+few_distinct zero (x ∷ xs) once below = absurd (omega (arith, below x (grind (arith, nat_tests))))
+few_distinct (suc n) xs once below =
+    let rest = few_distinct n (filter (λ v. not (eqb v n)) xs) (distinct_filter (λ v. not (eqb v n)) xs once) (λ v there. lower v (sym (has_number-filter v (λ u. not (eqb u n)) xs) ∙ there)) in
+    omega (arith, rest, most_kept n xs once)
+  where
+    lower : (v : ℕ) → has_number v xs && not (eqb v n) ≡ true → v < n
+    lower v both = let there : has_number v xs ≡ true = grind (arith, nat_tests, both) in let h = below v there in grind (arith, nat_tests, both, h)

@@ -1,7 +1,7 @@
 -- The meetings of vertices that begin, row by row.
-use Rattle.std.proofs.Common.{ℕ, suc, ◌<◌, ◌≡◌, ◌≢◌, inl, inr, Bool, true, false, cond, ltb, eqb, ◌&&◌, ◌||◌, List, [], ◌∷◌, ◌++◌, get_or, ap, sym, ◌∙◌, arith, subst}
+use Rattle.std.proofs.Common.{ℕ, suc, ◌<◌, ◌≡◌, ◌≢◌, inl, inr, true, false, ltb, eqb, ◌&&◌, List, [], ◌∷◌, ◌++◌, get_or, ap, sym, ◌∙◌, arith}
 use Rattle.std.specs.List.{flat_map}
-use Rattle.std.proofs.lemmas.Bool.{cases_eq, cases_Bool, true≢false}
+use Rattle.std.proofs.lemmas.Bool.{cases_Bool, cases_eq, or_from, or_left, or_right, true≢false}
 use Rattle.std.proofs.lemmas.Bool.Decides.{nat_tests}
 use Rattle.kc_graph.specs.Numbers.{has_number, RisesFrom}
 use Rattle.kc_graph.specs.Shape.{GraphShape, Pair, IsGraph, has_edge, neighbours_of}
@@ -11,72 +11,32 @@ use Rattle.kc_levels.specs.Following.{AreDistinct}
 use Rattle.kc_insert.specs.private.Crossing.{meetings_on}
 use Rattle.kc_insert.specs.private.Meetings.{AreApart}
 use Rattle.kc_insert.proofs.Joined.{has_edge-append}
-use Rattle.kc_insert.proofs.Tests.{or_either, or_left, or_none, or_right}
+use Rattle.kc_insert.proofs.Tests.{or_either}
 
 -- which pairs the meetings of v on level k are
 pub has_edge-meetings_on : (x : List ℕ) (l v k : ℕ) (ws : List ℕ) (a w : ℕ) → has_edge (a, w) (meetings_on x l v k ws) ≡ (eqb a v && has_number w ws) && (ltb l k && eqb (get_or x w 0) k)
 has_edge-meetings_on x l v k [] a w = grind (arith, nat_tests)
-has_edge-meetings_on x l v k (t ∷ ts) a w = elim (cases_Bool (ltb l k && eqb (get_or x t 0) k)) [
-  | inl yes_ ↦
-      ap (λ b. has_edge (a, w) (cond b ((v, t) ∷ meetings_on x l v k ts) (meetings_on x l v k ts))) yes_
-      ∙ elim (cases_eq t w) [
-        | inl e ↦ same (has_edge (a, w) (meetings_on x l v k ts)) (has_number w ts) _ e (ap (λ u. ltb l k && eqb (get_or x u 0) k) (sym e) ∙ yes_) (has_edge-meetings_on x l v k ts a w)
-        | inr ne ↦ other (has_edge (a, w) (meetings_on x l v k ts)) (has_number w ts) _ ne (has_edge-meetings_on x l v k ts a w)
-      ]
-  | inr no_ ↦
-      ap (λ b. has_edge (a, w) (cond b ((v, t) ∷ meetings_on x l v k ts) (meetings_on x l v k ts))) no_
-      ∙ elim (cases_eq t w) [
-        | inl e ↦ none (has_edge (a, w) (meetings_on x l v k ts)) (has_number w ts) _ (ap (λ u. ltb l k && eqb (get_or x u 0) k) (sym e) ∙ no_) (has_edge-meetings_on x l v k ts a w)
-        | inr ne ↦ past (has_edge (a, w) (meetings_on x l v k ts)) (has_number w ts) _ ne (has_edge-meetings_on x l v k ts a w)
-      ]
-]
-  where
-    same : (h n s : Bool) → t ≡ w → s ≡ true → h ≡ (eqb a v && n) && s → (eqb a v && eqb w t) || h ≡ (eqb a v && (eqb t w || n)) && s
-    same h n s e f is = grind (arith, nat_tests, e, f, is)
-
-    other : (h n s : Bool) → t ≢ w → h ≡ (eqb a v && n) && s → (eqb a v && eqb w t) || h ≡ (eqb a v && (eqb t w || n)) && s
-    other h n s ne is = grind (arith, nat_tests, ne, is)
-
-    none : (h n s : Bool) → s ≡ false → h ≡ (eqb a v && n) && s → h ≡ (eqb a v && (eqb t w || n)) && s
-    none h n s f is = grind (arith, nat_tests, f, is)
-
-    past : (h n s : Bool) → t ≢ w → h ≡ (eqb a v && n) && s → h ≡ (eqb a v && (eqb t w || n)) && s
-    past h n s ne is = grind (arith, nat_tests, ne, is)
+has_edge-meetings_on x l v k (t ∷ ts) a w = grind (arith, nat_tests, has_edge-meetings_on x l v k ts a w)
 
 -- what a pair among them is
 pub is_on : (x : List ℕ) (l v k : ℕ) (ws : List ℕ) (a w : ℕ) → has_edge (a, w) (meetings_on x l v k ws) ≡ true → (a ≡ v) × (has_number w ws ≡ true) × (l < k) × (get_or x w 0 ≡ k)
-is_on x l v k ws a w there = split (has_number w ws) (get_or x w 0) (sym (has_edge-meetings_on x l v k ws a w) ∙ there)
-  where
-    split : (n : Bool) (o : ℕ) → (eqb a v && n) && (ltb l k && eqb o k) ≡ true → (a ≡ v) × (n ≡ true) × (l < k) × (o ≡ k)
-    split n o all = (grind (arith, nat_tests, all), grind (arith, nat_tests, all), grind (arith, nat_tests, all), grind (arith, nat_tests, all))
+is_on x l v k ws a w there = grind (arith, nat_tests, has_edge-meetings_on)
 
 -- which pairs are among them
 pub is_among : (x : List ℕ) (l v k : ℕ) (ws : List ℕ) (w : ℕ) → has_number w ws ≡ true → l < k → get_or x w 0 ≡ k → has_edge (v, w) (meetings_on x l v k ws) ≡ true
-is_among x l v k ws w there above on = has_edge-meetings_on x l v k ws v w ∙ join (has_number w ws) (get_or x w 0) there on
-  where
-    join : (n : Bool) (o : ℕ) → n ≡ true → o ≡ k → (eqb v v && n) && (ltb l k && eqb o k) ≡ true
-    join n o e f = grind (arith, nat_tests, e, f, above)
+is_among x l v k ws w there above on = grind (arith, nat_tests, has_edge-meetings_on)
 
 -- none of them is there twice
 pub apart_on : (x : List ℕ) (l v k low : ℕ) (ws : List ℕ) → RisesFrom low ws → AreApart (meetings_on x l v k ws)
 apart_on x l v k low [] up = tt
-apart_on x l v k low (t ∷ ts) up = elim (cases_Bool (ltb l k && eqb (get_or x t 0) k)) [
-  | inl yes_ ↦ subst (λ b. AreApart (cond b ((v, t) ∷ meetings_on x l v k ts) (meetings_on x l v k ts))) (sym yes_) (none, apart_on x l v k (suc t) ts up.1)
-  | inr no_ ↦ subst (λ b. AreApart (cond b ((v, t) ∷ meetings_on x l v k ts) (meetings_on x l v k ts))) (sym no_) (apart_on x l v k (suc t) ts up.1)
-]
-  where
-    nothing : (n s : Bool) → n ≡ false → (eqb v v && n) && s ≡ false
-    nothing n s e = grind (arith, nat_tests, e)
-
-    none : has_edge (v, t) (meetings_on x l v k ts) ≡ false
-    none = has_edge-meetings_on x l v k ts v t ∙ nothing (has_number t ts) _ (has_number_below (suc t) t ts up.1 (omega arith))
+apart_on x l v k low (t ∷ ts) up = grind (arith, nat_tests, apart_on x l v k (suc t) ts up.1, has_edge-meetings_on, has_number_below, up.1)
 
 -- two lists with no pair in common
 pub apart-append : (xs ys : List Pair) → AreApart xs → AreApart ys → ((e : Pair) → has_edge e xs ≡ true → has_edge e ys ≡ false) → AreApart (xs ++ ys)
 apart-append [] ys p q off = q
 apart-append (e ∷ es) ys p q off =
     let first : has_edge e (e ∷ es) ≡ true = grind (arith, nat_tests) in
-    (has_edge-append e es ys ∙ or_none (has_edge e es) (has_edge e ys) p.0 (off e first), apart-append es ys p.1 q (λ f there. off f (grind (arith, nat_tests, there))))
+    (has_edge-append e es ys ∙ or_from (has_edge e es) (has_edge e ys) p.0 (off e first), apart-append es ys p.1 q (λ f there. off f (grind (arith, nat_tests, there))))
 
 -- the meetings of several vertices
 module _ (g : GraphShape) (x : List ℕ) (l k : ℕ) where

@@ -3,6 +3,7 @@ use Rattle.std.proofs.Common.{ℕ, suc, zero, ◌+◌, ◌≤◌, ◌<◌, ◌�
 use Rattle.std.specs.Prelude.{All}
 use Rattle.std.specs.List.{flat_map}
 use Rattle.std.proofs.lemmas.Bool.{cases_eq}
+use Rattle.std.proofs.lemmas.Bool.Decides.{nat_tests}
 use Rattle.kc_insert.specs.Ranges.{no_part, Part}
 
 module _ {X : Type 0} (of : Part → List (List X)) where
@@ -24,10 +25,7 @@ module _ {X : Type 0} (of : Part → List (List X)) where
   -- the next range has something on `level` first
   module _ (items : List Part) (i from next level : ℕ) (at : i < length items) (s : IsNearest items i from next) (small : level ≤ 65535) (above : from ≤ level) (inside : (d : Part) → level ≤ length (of (get_or items i d))) (none : (d : Part) (k : ℕ) → from ≤ k → k < level → get_or (of (get_or items i d)) k [] ≡ []) (some : (d : Part) → get_or (of (get_or items i d)) level [] ≡ [] → length (of (get_or items i d)) ≤ level) where
     none_of : (most : ℕ) → most ≤ next → most ≤ level → (k j : ℕ) (d : Part) → from ≤ k → k < most → j < i + 1 → get_or (of (get_or items j d)) k [] ≡ []
-    none_of most a b k j d over below h = elim (cases_eq j i) [
-      | inl e ↦ ap (λ t. get_or (of (get_or items t d)) k []) e ∙ none d k over (omega (arith, below, b))
-      | inr ne ↦ s.none k j d over (omega (arith, below, a)) (omega (arith, h, ne))
-    ]
+    none_of most a b k j d over below h = grind (arith, nat_tests, s.none)
 
     pub nearest_lower : level < next → IsNearest items (i + 1) from level
     nearest_lower lt = record {

@@ -1,14 +1,14 @@
 -- What meetings tell adds up: how often a vertex is told, as a count over its neighbours.
 use Rattle.std.proofs.Common.{ℕ, suc, zero-add, ◌+◌, ◌≡◌, ◌≢◌, inl, inr, Bool, true, false, cond, eqb, ◌&&◌, List, [], ◌∷◌, map, refl, ap, sym, ◌∙◌, arith}
 use Rattle.std.specs.Prelude.{count_by, filter}
-use Rattle.std.proofs.lemmas.Bool.{cases_eq, cases_Bool}
+use Rattle.std.proofs.lemmas.Bool.{and_from, and_right, cases_Bool, cases_eq, eq-eqb, ne_eqb}
 use Rattle.std.proofs.lemmas.Bool.Decides.{nat_tests}
 use Rattle.kc_graph.specs.Numbers.{has_number, RisesFrom}
 use Rattle.kc_graph.specs.Shape.{Pair, has_edge}
 use Rattle.kc_graph.proofs.lemmas.Counts.{count_by-cons}
 use Rattle.kc_insert.specs.private.Meetings.{AreApart}
 use Rattle.kc_insert.specs.private.Telling.{times}
-use Rattle.kc_insert.proofs.Flips.{count_agree, count_less}
+use Rattle.kc_insert.proofs.Tests.{count_agree, count_less}
 
 count_nothing : (p : ℕ → Bool) (xs : List ℕ) → ((x : ℕ) → p x ≡ false) → count_by p xs ≡ 0
 count_nothing p [] none = refl
@@ -30,12 +30,9 @@ module _ (p : ℕ → Bool) (q : ℕ → Bool) (v low : ℕ) (near : List ℕ) (
 
   fails_end : (e : Pair) (es : List Pair) (u : ℕ) → q e.1 ≡ false → seen_of (e ∷ es) u ≡ seen_of es u
   fails_end e es u no_ = elim (cases_eq u e.1) [
-    | inl f ↦ let none : q u ≡ false = ap q f ∙ no_ in both (has_edge (v, u) (e ∷ es)) (has_edge (v, u) es) (q u) none
+    | inl f ↦ let none : q u ≡ false = ap q f ∙ no_ in and_right (has_edge (v, u) (e ∷ es)) (q u) none ∙ sym (and_right (has_edge (v, u) es) (q u) none)
     | inr ne ↦ other_end e es u ne
   ]
-    where
-      both : (a b c : Bool) → c ≡ false → a && c ≡ b && c
-      both a b c none = grind (arith, nat_tests, none)
 
   pub times_firsts : (es : List Pair) → AreApart es → ((u : ℕ) → has_edge (v, u) es ≡ true → has_number u near ≡ true) → times v (firsts es) ≡ count_by (seen_of es) near
   times_firsts [] apart listed = sym (count_nothing (seen_of []) near (λ u. refl))
@@ -45,15 +42,12 @@ module _ (p : ℕ → Bool) (q : ℕ → Bool) (v low : ℕ) (near : List ℕ) (
       | inr no_ ↦ dropped no_ ∙ later ∙ sym (count_agree (seen_of (e ∷ es)) (seen_of es) near (λ u there. fails_end e es u no_))
       | inl yes_ ↦
           taken is yes_ ∙ ap suc later
-          ∙ more (count_less (seen_of (e ∷ es)) (seen_of es) e.1 low near up (listed e.1 (here is)) (both (here is) yes_) (gone is) (λ u ne. other_end e es u ne))
+          ∙ more (count_less (seen_of (e ∷ es)) (seen_of es) e.1 low near up (listed e.1 (here is)) (and_from _ _ (here is) yes_) (gone is) (λ u ne. other_end e es u ne))
     ]
   ]
     where
       here : e.0 ≡ v → has_edge (v, e.1) (e ∷ es) ≡ true
       here is = grind (arith, nat_tests, is)
-
-      both : {a b : Bool} → a ≡ true → b ≡ true → a && b ≡ true
-      both {a} {b} x y = grind (arith, nat_tests, x, y)
 
       gone : e.0 ≡ v → seen_of es e.1 ≡ false
       gone is = ap (λ k. has_edge (k, e.1) es && q e.1) (sym is) ∙ ap (λ b. b && q e.1) apart.0
@@ -62,27 +56,18 @@ module _ (p : ℕ → Bool) (q : ℕ → Bool) (v low : ℕ) (near : List ℕ) (
       more {a} {b} is = omega (arith, is)
 
       dropped : q e.1 ≡ false → times v (firsts (e ∷ es)) ≡ times v (firsts es)
-      dropped no_ = ap (λ b. times v (map (λ (f : Pair). f.0) (cond b (e ∷ filter (λ (f : Pair). p f.0 && q f.1) es) (filter (λ (f : Pair). p f.0 && q f.1) es)))) (second (p e.0) (q e.1) no_)
-        where
-          second : (a b : Bool) → b ≡ false → a && b ≡ false
-          second a b x = grind (arith, nat_tests, x)
+      dropped no_ = ap (λ b. times v (map (λ (f : Pair). f.0) (cond b (e ∷ filter (λ (f : Pair). p f.0 && q f.1) es) (filter (λ (f : Pair). p f.0 && q f.1) es)))) (and_right (p e.0) (q e.1) no_)
 
       skip : e.0 ≢ v → times v (firsts (e ∷ es)) ≡ times v (firsts es)
       skip ne = elim (cases_Bool (p e.0 && q e.1)) [
-        | inl yes_ ↦ ap (λ b. times v (map (λ (f : Pair). f.0) (cond b (e ∷ filter (λ (f : Pair). p f.0 && q f.1) es) (filter (λ (f : Pair). p f.0 && q f.1) es)))) yes_ ∙ ap (λ b. cond b 1 0 + times v (firsts es)) (off e.0 ne) ∙ zero-add (times v (firsts es))
+        | inl yes_ ↦ ap (λ b. times v (map (λ (f : Pair). f.0) (cond b (e ∷ filter (λ (f : Pair). p f.0 && q f.1) es) (filter (λ (f : Pair). p f.0 && q f.1) es)))) yes_ ∙ ap (λ b. cond b 1 0 + times v (firsts es)) (ne_eqb e.0 v ne) ∙ zero-add (times v (firsts es))
         | inr no_ ↦ ap (λ b. times v (map (λ (f : Pair). f.0) (cond b (e ∷ filter (λ (f : Pair). p f.0 && q f.1) es) (filter (λ (f : Pair). p f.0 && q f.1) es)))) no_
       ]
-        where
-          off : (a : ℕ) → a ≢ v → eqb a v ≡ false
-          off a x = grind (arith, nat_tests, x)
 
       taken : e.0 ≡ v → q e.1 ≡ true → times v (firsts (e ∷ es)) ≡ suc (times v (firsts es))
       taken is yes_ =
-          ap (λ b. times v (map (λ (f : Pair). f.0) (cond b (e ∷ filter (λ (f : Pair). p f.0 && q f.1) es) (filter (λ (f : Pair). p f.0 && q f.1) es)))) (both (ap p is ∙ passes) yes_)
-          ∙ ap (λ b. cond b 1 0 + times v (firsts es)) (on e.0 is) ∙ omega arith
-        where
-          on : (a : ℕ) → a ≡ v → eqb a v ≡ true
-          on a x = grind (arith, nat_tests, x)
+          ap (λ b. times v (map (λ (f : Pair). f.0) (cond b (e ∷ filter (λ (f : Pair). p f.0 && q f.1) es) (filter (λ (f : Pair). p f.0 && q f.1) es)))) (and_from _ _ (ap p is ∙ passes) yes_)
+          ∙ ap (λ b. cond b 1 0 + times v (firsts es)) (eq-eqb e.0 v is) ∙ omega arith
 
 -- the pairs whose second vertex is w, where the first passes: `near` has all their first vertices
 module _ (p : ℕ → Bool) (w low : ℕ) (near : List ℕ) (up : RisesFrom low near) where
@@ -100,43 +85,31 @@ module _ (p : ℕ → Bool) (w low : ℕ) (near : List ℕ) (up : RisesFrom low 
 
   lost_end : (e : Pair) (es : List Pair) (u : ℕ) → p e.0 ≡ false → seen_by (e ∷ es) u ≡ seen_by es u
   lost_end e es u no_ = elim (cases_eq u e.0) [
-    | inl f ↦ let none : p u ≡ false = ap p f ∙ no_ in both (has_edge (u, w) (e ∷ es)) (has_edge (u, w) es) (p u) none
+    | inl f ↦ let none : p u ≡ false = ap p f ∙ no_ in and_right (has_edge (u, w) (e ∷ es)) (p u) none ∙ sym (and_right (has_edge (u, w) es) (p u) none)
     | inr ne ↦ strange_end e es u ne
   ]
-    where
-      both : (a b c : Bool) → c ≡ false → a && c ≡ b && c
-      both a b c none = grind (arith, nat_tests, none)
 
   pub times_seconds : (es : List Pair) → AreApart es → ((u : ℕ) → has_edge (u, w) es ≡ true → has_number u near ≡ true) → times w (seconds es) ≡ count_by (seen_by es) near
   times_seconds [] apart listed = sym (count_nothing (seen_by []) near (λ u. refl))
   times_seconds (e ∷ es) apart listed = let later : times w (seconds es) ≡ count_by (seen_by es) near = times_seconds es apart.1 (λ u there. listed u (grind (arith, nat_tests, there))) in elim (cases_Bool (p e.0)) [
     | inr no_ ↦ dropped no_ ∙ later ∙ sym (count_agree (seen_by (e ∷ es)) (seen_by es) near (λ u there. lost_end e es u no_))
     | inl yes_ ↦ kept yes_ ∙ elim (cases_eq e.1 w) [
-      | inr ne ↦ ap (λ b. cond b 1 0 + times w (seconds es)) (off e.1 ne) ∙ zero-add (times w (seconds es)) ∙ later ∙ sym (count_agree (seen_by (e ∷ es)) (seen_by es) near (λ u there. strange_pair e es u ne))
+      | inr ne ↦ ap (λ b. cond b 1 0 + times w (seconds es)) (ne_eqb e.1 w ne) ∙ zero-add (times w (seconds es)) ∙ later ∙ sym (count_agree (seen_by (e ∷ es)) (seen_by es) near (λ u there. strange_pair e es u ne))
       | inl is ↦
-          ap (λ b. cond b 1 0 + times w (seconds es)) (on e.1 is)
+          ap (λ b. cond b 1 0 + times w (seconds es)) (eq-eqb e.1 w is)
           ∙ plus later
-          ∙ sym (count_less (seen_by (e ∷ es)) (seen_by es) e.0 low near up (listed e.0 (here is)) (both (here is) yes_) (gone is) (λ u ne. strange_end e es u ne))
+          ∙ sym (count_less (seen_by (e ∷ es)) (seen_by es) e.0 low near up (listed e.0 (here is)) (and_from _ _ (here is) yes_) (gone is) (λ u ne. strange_end e es u ne))
     ]
   ]
     where
       here : e.1 ≡ w → has_edge (e.0, w) (e ∷ es) ≡ true
       here is = grind (arith, nat_tests, is)
 
-      both : {a b : Bool} → a ≡ true → b ≡ true → a && b ≡ true
-      both {a} {b} x y = grind (arith, nat_tests, x, y)
-
       gone : e.1 ≡ w → seen_by es e.0 ≡ false
       gone is = ap (λ k. has_edge (e.0, k) es && p e.0) (sym is) ∙ ap (λ b. b && p e.0) apart.0
 
       plus : {a b : ℕ} → a ≡ b → 1 + a ≡ b + 1
       plus {a} {b} is = omega (arith, is)
-
-      on : (a : ℕ) → a ≡ w → eqb a w ≡ true
-      on a x = grind (arith, nat_tests, x)
-
-      off : (a : ℕ) → a ≢ w → eqb a w ≡ false
-      off a x = grind (arith, nat_tests, x)
 
       dropped : p e.0 ≡ false → times w (seconds (e ∷ es)) ≡ times w (seconds es)
       dropped no_ = ap (λ b. times w (map (λ (f : Pair). f.1) (cond b (e ∷ filter (λ (f : Pair). p f.0) es) (filter (λ (f : Pair). p f.0) es)))) no_

@@ -1,9 +1,10 @@
 -- How the sweep of a phase begins, and what is left of it.
-use Rattle.std.proofs.Common.{ℕ, suc, replicate, ◌+◌, ◌≤◌, ◌<◌, ◌≡◌, inl, inr, true, false, List, [], ◌∷◌, ◌++◌, length, get_or, filter, refl, ap, sym, subst, ◌∙◌, arith}
+use Rattle.std.proofs.Common.{ℕ, suc, replicate, ◌+◌, ◌≤◌, ◌<◌, ◌≡◌, true, false, List, [], ◌∷◌, ◌++◌, length, get_or, filter, refl, ap, sym, subst, ◌∙◌, arith}
 use Rattle.std.specs.List.{flat_map}
-use Rattle.std.proofs.lemmas.Bool.{cases_lt, true≢false}
+use Rattle.std.proofs.lemmas.Bool.{true≢false}
 use Rattle.std.proofs.lemmas.Bool.Decides.{nat_tests}
 use Rattle.std.proofs.lemmas.List.{get_or_default, get_or_past, length-replicate}
+use Rattle.std.specs.Prelude.{All}
 use Rattle.kc_graph.specs.Numbers.{has_number}
 use Rattle.kc_graph.specs.Shape.{GraphShape, IsGraph, has_edge}
 use Rattle.kc_levels.specs.declared.profile.Profile.{Profile}
@@ -14,24 +15,20 @@ use Rattle.kc_adj.proofs.lemmas.Lists.{empty_list}
 use Rattle.kc_insert.specs.Effort.{effort}
 use Rattle.kc_insert.specs.declared.rising.RisingLevels.{RisingLevels}
 use Rattle.kc_insert.specs.private.LevelStep.{AreInOrder}
-use Rattle.kc_insert.specs.Ranges.{all_began, all_risen, AreQuiet, Cut, IsHeld, meets, no_part, Part, part_at, range_of, Tell, waits, Watch}
+use Rattle.kc_insert.specs.Ranges.{all_began, all_risen, AreQuiet, Cut, HasVertex, meets, no_part, Part, part_at, range_of, Tell, waits, Watch}
 use Rattle.kc_insert.specs.private.Ranges.{count_of}
 use Rattle.kc_insert.specs.private.Rising.{all_at, rises, seen}
 use Rattle.kc_insert.specs.private.Sweeping.{AreCounted, IsPaid, IsQueued, IsSame, IsSweeping, sweeping_of}
-use Rattle.kc_insert.specs.private.Watched.{count_at}
 use Rattle.kc_insert.proofs.Joined.{joined_of, pairs_of}
 use Rattle.kc_insert.proofs.Kept.{kept_at, kept_listed}
 use Rattle.kc_insert.proofs.Staying.{nobody_rises}
-use Rattle.kc_insert.proofs.Sweeps.{paid_starts, sweeping_last, sweeping_starts}
 use Rattle.kc_insert.proofs.SweepSame.{same_paid, same_sweeping}
+use Rattle.kc_insert.proofs.Sweeps.{paid_starts, sweeping_last, sweeping_starts}
 
 -- no level that there is stands for a vertex that rises
 pub none_rises : (p : Profile) (n : ℕ) (s : RisingLevels) → length s.stored ≡ n → IsCapped p n s.stored → top_level p n < 65535 → (v : ℕ) → rises s v ≡ false
 unfolding rises
-none_rises p n s long capped small v = elim (cases_lt v n) [
-  | inl h ↦ grind (arith, nat_tests, capped v h, small)
-  | inr past ↦ grind (arith, nat_tests, get_or_past s.stored v 0 (omega (arith, past, long)))
-]
+none_rises p n s long capped small v = grind (arith, nat_tests, get_or_past)
 
 -- a sweep begins with the levels that stand in the list, and goes to level 0
 module _ (p : Profile) (g : GraphShape) (s t : RisingLevels) (r : Cut) (quiet : AreQuiet p g r) (long : length s.stored ≡ g.vertices) (capped : IsCapped p g.vertices s.stored) (tops : top_level p g.vertices < 65535) (on : t.level ≡ 0) (same : (v : ℕ) → rises t v ≡ rises s v) (goes : (risers : List ℕ) → ((v : ℕ) → rises s v ≡ has_number v risers) → seen t ≡ all_at (seen s) risers 0) where
@@ -109,10 +106,7 @@ module _ (p : Profile) (g : GraphShape) (s : RisingLevels) (r t : Cut) (order : 
   range_same v = ap (λ b. range_of b v) bits
 
   pub forgot_count : (v : ℕ) → count_of t v ≡ count_of r v
-  forgot_count v = ap (λ j. count_at (part_at t j).watch v) (range_same v) ∙ elim (cases_lt (range_of r.bits v) (length r.parts)) [
-    | inl at ↦ ap (λ (w : Watch). count_at w v) (watch_same (range_of r.bits v) (omega (arith, at, sized)))
-    | inr past ↦ ap (λ (q : Part). count_at q.watch v) (get_or_past t.parts (range_of r.bits v) no_part (omega (arith, past, sized)) ∙ sym (get_or_past r.parts (range_of r.bits v) no_part past))
-  ]
+  forgot_count v = grind (arith, nat_tests, range_same, watch_same, get_or_past)
 
   pub forgot_waits : (k : ℕ) → waits t k ≡ []
   forgot_waits k = empty_lists (λ (q : Part). get_or q.queue k []) t.parts (λ j at. ap (λ (q : Part). get_or q.queue k []) (forgot_at j at) ∙ empty_list (length (part_at r j).queue) k)
@@ -128,9 +122,9 @@ module _ (p : Profile) (g : GraphShape) (s : RisingLevels) (r t : Cut) (order : 
           let at : range_of r.bits v < length t.parts = omega (arith, it.place, sized) in
           record {
             place = omega (arith, at, range_same v);
-            held = subst (λ j. IsHeld (part_at t j).watch v) (sym (range_same v)) (subst (λ w. IsHeld w v) (sym (watch_same (range_of r.bits v) at)) it.held);
+            held = subst (λ j. HasVertex (part_at t j).watch v) (sym (range_same v)) (subst (λ w. HasVertex w v) (sym (watch_same (range_of r.bits v) at)) it.held);
           };
-      own = λ j v at held. let it = order.shape.own j v (within j at) (subst (λ w. IsHeld w v) (watch_same j at) held) in (it.0, range_same v ∙ it.1);
+      own = λ j v at held. let it = order.shape.own j v (within j at) (subst (λ w. HasVertex w v) (watch_same j at) held) in (it.0, range_same v ∙ it.1);
       queues = λ j at. ap (λ (q : Part). length q.queue) (forgot_at j at) ∙ length-replicate (length (part_at r j).queue) [] ∙ order.shape.queues j (within j at);
       meetings = λ j at. ap (λ (q : Part). length q.meetings) (forgot_at j at) ∙ length-replicate (length (part_at r j).meetings) [] ∙ order.shape.meetings j (within j at);
       tells = λ j at. ap (λ (q : Part). length q.tell.lists) (forgot_at j at) ∙ order.shape.tells j (within j at) ∙ sym sized;
@@ -146,5 +140,30 @@ module _ (p : Profile) (g : GraphShape) (s : RisingLevels) (r t : Cut) (order : 
     );
     begun = λ j at. ap (λ (q : Part). q.begun) (forgot_at j at) ∙ order.rest.begun j (within j at);
     steps = λ j at. ap (λ (q : Part). q.steps) (forgot_at j at) ∙ order.rest.steps j (within j at);
-    inside = λ j v at there. subst (λ w. IsHeld w v) (sym (watch_same j at)) (order.kept.inside j v (within j at) (ap (λ (w : Watch). has_number v w.doubtful) (sym (watch_same j at)) ∙ there));
+    inside = λ j v at there. subst (λ w. HasVertex w v) (sym (watch_same j at)) (order.kept.inside j v (within j at) (ap (λ (w : Watch). has_number v w.doubtful) (sym (watch_same j at)) ∙ there));
   }
+
+-- each range has a list for each level
+pub queues_long : (p : Profile) (g : GraphShape) (s : RisingLevels) (r : Cut) (l : ℕ) → AreInOrder p g s r → l ≤ top_level p g.vertices + 1 → All (λ (q : Part). l ≤ length q.queue) r.parts
+queues_long p g s r l order le j d at = subst (λ (q : Part). l ≤ length q.queue) (get_or_default r.parts j no_part d at) (omega (arith, le, order.shape.queues j at))
+
+pub queues_same : (p : Profile) (g : GraphShape) (s : RisingLevels) (r : Cut) → AreInOrder p g s r → All (λ (q : Part). length q.queue ≡ top_level p g.vertices + 1) r.parts
+queues_same p g s r order j d at = subst (λ (q : Part). length q.queue ≡ top_level p g.vertices + 1) (get_or_default r.parts j no_part d at) (order.shape.queues j at)
+
+-- a graph that has a vertex has a range
+pub some_range : (p : Profile) (g : GraphShape) (s : RisingLevels) (r : Cut) → AreInOrder p g s r → 0 < g.vertices → 0 < length r.parts
+some_range p g s r order some = omega (arith, (order.shape.vertex 0 some).place)
+
+-- no vertex rises any more
+pub stopped_order : (p : Profile) (g : GraphShape) (s t : RisingLevels) (r : Cut) → ((v : ℕ) → rises t v ≡ false) → AreInOrder p g s r → AreInOrder p g t r
+stopped_order p g s t r none order = record {
+  shape = order.shape;
+  kept = record {
+    began = λ v up. absurd (true≢false (sym up ∙ none v));
+    own = order.kept.own;
+    risen = order.kept.risen;
+    few = λ v up low. absurd (true≢false (sym up ∙ none v));
+    inside = order.kept.inside;
+  };
+  rest = order.rest;
+}

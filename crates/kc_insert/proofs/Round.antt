@@ -12,14 +12,14 @@ use Rattle.kc_insert.proofs.RoundKept.{steps_are}
 use Rattle.kc_insert.proofs.RoundLifted.{after_step, before_step, lifted, passed}
 use Rattle.kc_insert.proofs.RoundMeets.{meeting}
 use Rattle.kc_insert.proofs.RoundParts.{begun_in, HasPassed, Passage, stay_in}
-use Rattle.kc_insert.proofs.RoundRising.{AreKeeping, level3}
+use Rattle.kc_insert.proofs.RoundRising.{AreKeeping, level_lifted}
 use Rattle.kc_insert.proofs.RoundWaits.{waiting}
 use Rattle.kc_insert.proofs.Stepping.{paid_on, stepped}
 
-module _ (p : Profile) (g : GraphShape) (x : List ℕ) (r : Passage) (k : AreKeeping p g x r.bits r.most r.levels r.s0 r.p0 r.told0) (h : HasPassed g r) (graph : IsGraph g) (small : r.s0.level < 65534) (few : r.levels ≤ 65535) (tops : top_level p g.vertices < 65535) where
+module _ (p : Profile) (g : GraphShape) (x : List ℕ) (r : Passage) (k : AreKeeping p g x r.bits r.most r.level_count r.levels.old r.parts.old r.old_told) (h : HasPassed g r) (graph : IsGraph g) (small : r.levels.old.level < 65534) (few : r.level_count ≤ 65535) (tops : top_level p g.vertices < 65535) where
   pub has_stepped : HasStepped g x (before_step r) (after_step r) r.most r.above
   has_stepped = record {
-    level = level3 p g x r k h.before;
+    level = level_lifted p g x r k h.before;
     step = level_step p g x r k h graph small;
     lifted = lifted p g x r k h;
     waiting = waiting p g x r k h graph small;
@@ -27,9 +27,9 @@ module _ (p : Profile) (g : GraphShape) (x : List ℕ) (r : Passage) (k : AreKee
   }
 
   -- what is stated of the sweep
-  pub sweeping_next : r.s0.level < top_level p g.vertices → r.above ≡ high p (group_of p g.vertices (r.s0.level + 1)) → IsSweeping p g x (after_step r)
+  pub sweeping_next : r.levels.old.level < top_level p g.vertices → r.above ≡ high p (group_of p g.vertices (r.levels.old.level + 1)) → IsSweeping p g x (after_step r)
   sweeping_next room above_is = stepped p g x (before_step r) (after_step r) r.most r.above k.sweeping has_stepped graph room k.most_is above_is
 
   -- what is stated of the steps
-  pub paid_next : (first now : ℕ) → IsPaid g x (before_step r) first now → IsPaid g x (after_step r) first (now + sum_by (λ (q : Part). q.steps) r.p5)
-  paid_next first now paid = rw (steps_are p g x r k h graph small few tops) (paid_on p g x (before_step r) (after_step r) r.most r.above k.sweeping has_stepped (stay_in r.p2) (begun_in r.p4) first now (passed p g x r k h) paid)
+  pub paid_next : (first now : ℕ) → IsPaid g x (before_step r) first now → IsPaid g x (after_step r) first (now + sum_by (λ (q : Part). q.steps) r.parts.risen)
+  paid_next first now paid = rw (steps_are p g x r k h graph small few tops) (paid_on p g x (before_step r) (after_step r) r.most r.above k.sweeping has_stepped (stay_in r.parts.stopped) (begun_in r.parts.lifted) first now (passed p g x r k h) paid)

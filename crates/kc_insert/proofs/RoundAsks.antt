@@ -1,38 +1,33 @@
 -- A step of a sweep: what its calls ask, up to the vertices that begin.
-use Rattle.std.proofs.Common.{ℕ, ◌+◌, ◌^◌, ◌≤◌, ◌<◌, ◌≡◌, inl, inr, Bool, true, false, cond, leb, not, List, [], length, get_or, filter, refl, ap, sym, subst, ◌∙◌, arith}
+use Rattle.std.proofs.Common.{ℕ, ◌+◌, ◌^◌, ◌≤◌, ◌<◌, ◌≡◌, inl, inr, Bool, true, false, cond, leb, not, List, [], length, get_or, filter, ap, sym, subst, ◌∙◌, arith}
 use Rattle.std.specs.Prelude.{count_by}
 use Rattle.std.specs.List.{flat_map}
-use Rattle.std.proofs.lemmas.Bool.{cases_Bool, true≢false}
+use Rattle.std.proofs.lemmas.Bool.{and_right, cases_Bool, le-leb, true≢false}
 use Rattle.std.proofs.lemmas.List.{get_or_default}
 use Rattle.kc_graph.specs.Numbers.{has_number}
 use Rattle.kc_graph.specs.Shape.{GraphShape, IsGraph, neighbours_of}
 use Rattle.kc_levels.specs.declared.profile.Profile.{Profile}
 use Rattle.kc_levels.specs.LevelList.{at_least}
 use Rattle.kc_levels.proofs.lemmas.AtLeast.{count_by-mono}
-use Rattle.kc_adj.specs.Degrees.{degrees}
 use Rattle.kc_insert.specs.declared.rising.RisingLevels.{RisingLevels}
 use Rattle.kc_insert.specs.private.Crossing.{rising_near}
 use Rattle.kc_insert.specs.private.Parts.{CanPart}
-use Rattle.kc_insert.specs.Ranges.{IsHeld, IsIn, no_part, Part, range_of, Tell, Watch}
-use Rattle.kc_insert.specs.private.Ranges.{AllLetStay, CanLetStay, CanLiftOff, TookWaiting}
+use Rattle.kc_insert.specs.Ranges.{HasVertex, IsIn, no_part, Part, range_of, Tell, Watch}
+use Rattle.kc_insert.specs.private.Ranges.{AllLetStay, CanLetStay, CanLiftOff, is_over, TookWaiting}
 use Rattle.kc_insert.specs.private.Rising.{all_at, rises, seen}
-use Rattle.kc_insert.specs.private.Round.{is_over}
-use Rattle.kc_insert.specs.private.Sharing.{AllParted, CanPartAll}
+use Rattle.kc_insert.specs.private.Sharing.{CanPartAll}
 use Rattle.kc_insert.specs.private.Sweeping.{sweeping_of}
-use Rattle.kc_insert.specs.private.Telling.{times}
 use Rattle.kc_insert.specs.private.Watched.{count_at}
 use Rattle.kc_insert.proofs.Adding.{times_rows}
 use Rattle.kc_insert.proofs.Buckets.{has_number-filter}
 use Rattle.kc_insert.proofs.Inside.{inside_rows, near_inside}
-use Rattle.kc_insert.proofs.Joined.{distinct_part, joined_in, joined_of}
+use Rattle.kc_insert.proofs.Joined.{distinct_part, joined_in}
 use Rattle.kc_insert.proofs.Lifting.{length-all_at, all_at_other}
-use Rattle.kc_insert.proofs.Members.{none_in}
+use Rattle.kc_insert.proofs.Members.{few_distinct}
 use Rattle.kc_insert.proofs.RoundParts.{at_place, count_in, stay_in, step_at, waits_in}
 use Rattle.kc_insert.proofs.RoundRising.{AreKeeping, began_at, began_in, cut_of, listed, own_count, vertex_in}
 use Rattle.kc_insert.proofs.Stepping.{count_at_level, waits_here}
-use Rattle.kc_insert.proofs.Summing.{few_distinct}
-use Rattle.kc_insert.proofs.Tests.{and_first, and_left, and_off, le_true}
-use Rattle.kc_insert.proofs.Watching.{watched_same}
+use Rattle.kc_insert.proofs.Tests.{and_first, and_on}
 
 module _ (p : Profile) (g : GraphShape) (x : List ℕ) (bits most levels : ℕ) (s0 : RisingLevels) (p0 : List Part) (t0 : List Tell) (k : AreKeeping p g x bits most levels s0 p0 t0) where
   -- the vertices that wait are vertices
@@ -41,7 +36,7 @@ module _ (p : Profile) (g : GraphShape) (x : List ℕ) (bits most levels : ℕ) 
       let it = vertex_in p g x bits most levels s0 p0 t0 k v (waits_here p g x (sweeping_of s0 (cut_of bits p0 t0)) k.sweeping s0.level v (omega arith) there).0 in
       record {
         place = omega (arith, it.0, took.sized);
-        held = subst (λ (q : Part). IsHeld q.watch v) (sym (took.each (range_of bits v) no_part it.0)) it.1;
+        held = subst (λ (q : Part). HasVertex q.watch v) (sym (took.each (range_of bits v) no_part it.0)) it.1;
       }
 
   -- the watch lists have vertices of their own ranges
@@ -54,7 +49,7 @@ module _ (p : Profile) (g : GraphShape) (x : List ℕ) (bits most levels : ℕ) 
         let is = get_or_default p1 j d no_part at ∙ took.each j no_part within in
         let held = k.kept.inside j v within (ap (λ (q : Part). has_number v q.watch.doubtful) (sym is) ∙ there) in
         let own = k.shape.own j v within held in
-        (omega (arith, own.0, k.sweeping.placed.raising.sized), subst (λ (q : Part). IsHeld q.watch v) (sym is) held);
+        (omega (arith, own.0, k.sweeping.placed.raising.sized), subst (λ (q : Part). HasVertex q.watch v) (sym is) held);
   }
 
   -- after some vertices stopped
@@ -68,7 +63,7 @@ module _ (p : Profile) (g : GraphShape) (x : List ℕ) (bits most levels : ℕ) 
     stay_is : (j v : ℕ) → j < length p0 → has_number v (at_place p2 j).stay ≡ true → (rises s0 v ≡ true) × (v < g.vertices)
     stay_is j v at there =
         let it = stopped.stays j v no_part (omega (arith, at, took.sized)) there in
-        (it.0, (own_count p g x bits most levels s0 p0 t0 k j v at (subst (λ (q : Part). IsHeld q.watch v) (took.each j no_part at) it.2)).0)
+        (it.0, (own_count p g x bits most levels s0 p0 t0 k j v at (subst (λ (q : Part). HasVertex q.watch v) (took.each j no_part at) it.2)).0)
 
     stay_vertex : (v : ℕ) → has_number v (stay_in p2) ≡ true → (rises s0 v ≡ true) × (v < g.vertices)
     stay_vertex v there = let in_ = joined_in (λ (q : Part). q.stay) p2 v there in stay_is in_.0 v (omega (arith, in_.1, long)) in_.2
@@ -84,7 +79,7 @@ module _ (p : Profile) (g : GraphShape) (x : List ℕ) (bits most levels : ℕ) 
     unfolding at_least
     counts_stay v h on = omega (
       arith,
-      count_by-mono (λ u. has_number u (stay_in p2)) (λ u. leb s0.level (get_or (seen s0) u 0)) (neighbours_of v g.edges) (λ u there. le_true s0.level (get_or (seen s0) u 0) (omega (arith, here u (stay_vertex u there).0))),
+      count_by-mono (λ u. has_number u (stay_in p2)) (λ u. leb s0.level (get_or (seen s0) u 0)) (neighbours_of v g.edges) (λ u there. le-leb s0.level (get_or (seen s0) u 0) (omega (arith, here u (stay_vertex u there).0))),
       count_at_level p g x (sweeping_of s0 (cut_of bits p0 t0)) k.sweeping v s0.level h (here v (was_rising v on)),
     )
 
@@ -100,7 +95,7 @@ module _ (p : Profile) (g : GraphShape) (x : List ℕ) (bits most levels : ℕ) 
       lessen = record {
         held = λ v d there.
             let it = vertex_in p g x bits most levels s0 p0 t0 k v (inside v there) in
-            (omega (arith, it.0, long), subst (λ (q : Part). IsHeld q.watch v) (sym (get_or_default p2 (range_of bits v) d no_part (omega (arith, it.0, long)))) (held_on v (range_of bits v) it.0 it.1));
+            (omega (arith, it.0, long), subst (λ (q : Part). HasVertex q.watch v) (sym (get_or_default p2 (range_of bits v) d no_part (omega (arith, it.0, long)))) (held_on v (range_of bits v) it.0 it.1));
         enough = λ v d there.
             let it = vertex_in p g x bits most levels s0 p0 t0 k v (inside v there) in
             omega (
@@ -127,7 +122,7 @@ module _ (p : Profile) (g : GraphShape) (x : List ℕ) (bits most levels : ℕ) 
         inside : (v : ℕ) → has_number v (flat_map (rising_near (step_at g s1 bits s0.level dealt)) (stay_in p2)) ≡ true → v < g.vertices
         inside = inside_rows (λ v. v < g.vertices) (rising_near (step_at g s1 bits s0.level dealt)) (stay_in p2) (λ s v at near. near_inside g s v (rises s1) graph near)
 
-        held_on : (v j : ℕ) → j < length p0 → IsHeld (at_place p0 j).watch v → IsHeld (at_place p2 j).watch v
+        held_on : (v j : ℕ) → j < length p0 → HasVertex (at_place p0 j).watch v → HasVertex (at_place p2 j).watch v
         held_on v j at was = record {
           from = omega (arith, was.from, ap (λ (w : Watch). w.first) (watch_is j at));
           below = omega (arith, was.below, ap (λ (w : Watch). w.first) (watch_is j at), ap (λ (w : Watch). length w.counts) (watch_is j at));
@@ -138,28 +133,6 @@ module _ (p : Profile) (g : GraphShape) (x : List ℕ) (bits most levels : ℕ) 
           | inl on ↦ omega (arith, ap (λ b. cond b (count_by (λ u. has_number u (stay_in p2)) (neighbours_of v g.edges)) 0) on, counts_stay v h on)
           | inr off ↦ omega (arith, ap (λ b. cond b (count_by (λ u. has_number u (stay_in p2)) (neighbours_of v g.edges)) 0) off)
         ]
-
-    -- if none stays there is nothing to tell
-    pub parted_none : (dealt : Bool) → stay_in p2 ≡ [] → AllParted (step_at g s1 bits s0.level dealt) p2 p2
-    parted_none dealt none = record {
-      sized = refl;
-      part = λ j d at. ap (λ n. record (get_or p2 j d) { steps = n }) (sum_none (get_or p2 j d).steps (ap (degrees g) (empty j d at)));
-      lists = λ j d at. ap (λ (q : Part). length q.tell.lists) (get_or_default p2 j d no_part at) ∙ lists_are j (omega (arith, at, long)) ∙ sym long;
-      watched = λ j d at. watched_same (get_or p2 j d).watch;
-      less = λ v d at held. sum_zero (count_at (get_or p2 (range_of bits v) d).watch v) (ap (λ vs. times v (flat_map (rising_near (step_at g s1 bits s0.level dealt)) vs)) none);
-    }
-      where
-        sum_none : (n : ℕ) {m : ℕ} → m ≡ 0 → n ≡ n + m
-        sum_none n e = omega (arith, e)
-
-        sum_zero : (n : ℕ) {m : ℕ} → m ≡ 0 → n + m ≡ n
-        sum_zero n e = omega (arith, e)
-
-        empty : (j : ℕ) (d : Part) → j < length p2 → (get_or p2 j d).stay ≡ []
-        empty j d at = ap (λ (q : Part). q.stay) (get_or_default p2 j d no_part at) ∙ none_in (at_place p2 j).stay (λ v. elim (cases_Bool (has_number v (at_place p2 j).stay)) [
-          | inr gone ↦ gone
-          | inl there ↦ absurd (true≢false (sym (joined_of (λ (q : Part). q.stay) p2 v j at there) ∙ ap (has_number v) none))
-        ])
 
     -- the vertices that begin are on the level still
     pub ask_lift : (s2 : RisingLevels) (p3 : List Part) (starting : List ℕ) → length p3 ≡ length p0 → ((j : ℕ) → j < length p0 → (at_place p3 j).begun ≡ []) → s2.level ≡ s0.level + 1 → ((risers : List ℕ) → ((v : ℕ) → rises s1 v ≡ has_number v risers) → seen s2 ≡ all_at (seen s1) risers (s0.level + 1)) → starting ≡ filter (is_over (count_in bits p1) most) (waits_in s0.level p0) → CanLiftOff s0.level s2 starting bits p3
@@ -176,8 +149,8 @@ module _ (p : Profile) (g : GraphShape) (x : List ℕ) (bits most levels : ℕ) 
 
         on_listed : (v : ℕ) → rises s1 v ≡ has_number v on_list
         on_listed v = sym (has_number-filter v (rises s1) (began_in p0) ∙ elim (cases_Bool (rises s1 v)) [
-          | inl up ↦ and_left (has_number v (began_in p0)) (rises s1 v) (began_at p g x bits most levels s0 p0 t0 k v (was_rising v up)).1
-          | inr off ↦ and_off (has_number v (began_in p0)) (rises s1 v) off ∙ sym off
+          | inl up ↦ and_on (has_number v (began_in p0)) (rises s1 v) (began_at p g x bits most levels s0 p0 t0 k v (was_rising v up)).1
+          | inr off ↦ and_right (has_number v (began_in p0)) (rises s1 v) off ∙ sym off
         ])
 
         moved : seen s2 ≡ all_at (seen s0) on_list (s0.level + 1)

@@ -3,6 +3,7 @@ use Rattle.std.proofs.Common.{ℕ, ◌+◌, ◌^◌, ◌≤◌, ◌<◌, ◌≡�
 use Rattle.std.specs.Prelude.{All}
 use Rattle.std.specs.List.{sum_by}
 use Rattle.std.proofs.lemmas.List.{get_or_default}
+use Rattle.std.proofs.lemmas.Bool.Decides.{nat_tests}
 use Rattle.kc_graph.specs.Numbers.{has_number}
 use Rattle.kc_graph.specs.Shape.{GraphShape, IsGraph, Pair}
 use Rattle.kc_levels.specs.declared.profile.Profile.{Profile}
@@ -12,21 +13,20 @@ use Rattle.kc_insert.specs.declared.rising.RisingLevels.{RisingLevels}
 use Rattle.kc_insert.specs.private.Crossing.{IsCrossing}
 use Rattle.kc_insert.specs.private.LevelStep.{AreInOrder, HasLimit, IsLevelStep}
 use Rattle.kc_insert.specs.Ranges.{Cut, IsIn, no_part, Part, waits}
-use Rattle.kc_insert.specs.private.Ranges.{AllLetStay, AreToldAll, CanLetStay, CanLiftOff, count_of, LiftedOff, TookWaiting}
+use Rattle.kc_insert.specs.private.Ranges.{AllLetStay, AreToldAll, CanLetStay, CanLiftOff, count_of, is_over, LiftedOff, TookWaiting}
 use Rattle.kc_insert.specs.private.Rising.{all_at, rises, seen}
-use Rattle.kc_insert.specs.private.Round.{is_over}
 use Rattle.kc_insert.specs.private.Sharing.{AllParted, AllRisen, CanPartAll, CanRiseAll}
 use Rattle.kc_insert.specs.private.Sweeping.{IsPaid, IsSame, IsSweeping, sweeping_of}
+use Rattle.kc_insert.proofs.Members.{few_distinct}
 use Rattle.kc_insert.proofs.Bounds.{degrees_few}
 use Rattle.kc_insert.proofs.Round.{paid_next, sweeping_next}
 use Rattle.kc_insert.proofs.RoundAsks.{ask_lift, ask_movers, ask_part, ask_stay}
 use Rattle.kc_insert.proofs.RoundCounts.{level_step}
 use Rattle.kc_insert.proofs.RoundLifted.{after_step}
 use Rattle.kc_insert.proofs.RoundKept.{counted_same, cut_on, kept_on, rest_on, steps_are}
-use Rattle.kc_insert.proofs.RoundParts.{begun_in, count_in, HasLifted, HasPassed, long4, meetings4, Passage, stay_in, step_at}
+use Rattle.kc_insert.proofs.RoundParts.{begun_in, count_in, HasLifted, HasPassed, long_lifted, meetings_lifted, Passage, stay_in, step_at}
 use Rattle.kc_insert.proofs.RoundRiseAsks.{ask_rise}
-use Rattle.kc_insert.proofs.RoundRising.{AreKeeping, begun_here, sized3, stay_few}
-use Rattle.kc_insert.proofs.Summing.{few_distinct}
+use Rattle.kc_insert.proofs.RoundRising.{AreKeeping, begun_here, sized_parted, stay_few}
 use Rattle.kc_insert.proofs.SweepSame.{same_paid, same_sweeping}
 
 module _ (p : Profile) (g : GraphShape) (x : List ℕ) (s0 : RisingLevels) (r0 : Cut) (most : ℕ) (order : AreInOrder p g s0 r0) (limit : HasLimit most r0) (i : IsSweeping p g x (sweeping_of s0 r0)) (most_is : most ≡ high p (group_of p g.vertices s0.level)) (graph : IsGraph g) (few : g.vertices ≤ 2 ^ 24) (room : s0.level < top_level p g.vertices) (tops : top_level p g.vertices < 65535) where
@@ -86,21 +86,13 @@ module _ (p : Profile) (g : GraphShape) (x : List ℕ) (s0 : RisingLevels) (r0 :
           abbrev passage : ℕ → Bool → Cut → Passage
           passage above more r5 = record {
             bits = r0.bits;
-            levels = top_level p g.vertices + 1;
+            level_count = top_level p g.vertices + 1;
             most = most;
             above = above;
-            s0 = s0;
-            s1 = s1;
-            s2 = s2;
-            s3 = s3;
-            p0 = r0.parts;
-            p1 = r1.parts;
-            p2 = r2.parts;
-            p3 = r3.parts;
-            p4 = r4.parts;
-            p5 = r5.parts;
-            told0 = r0.told;
-            told5 = r5.told;
+            levels = record { old = s0; stopped = s1; next = s2; lifted = s3 };
+            parts = record { old = r0.parts; taken = r1.parts; stopped = r2.parts; parted = r3.parts; lifted = r4.parts; risen = r5.parts };
+            old_told = r0.told;
+            new_told = r5.told;
             starting = starting;
             less = less;
             more = more;
@@ -118,10 +110,10 @@ module _ (p : Profile) (g : GraphShape) (x : List ℕ) (s0 : RisingLevels) (r0 :
           }
 
           long4_ : length r4.parts ≡ length r0.parts
-          long4_ = long4 g (passage 0 true r4) (has_lifted 0 true r4)
+          long4_ = long_lifted g (passage 0 true r4) (has_lifted 0 true r4)
 
           pub call_rise_step : (bits : ℕ) (more : Bool) → IsCrossing (step_at g s3 bits s0.level more)
-          call_rise_step bits more = record { graph = graph; sized = sized3 p g x (passage 0 true r4) keeping (has_lifted 0 true r4) ∙ vertices; small = small }
+          call_rise_step bits more = record { graph = graph; sized = sized_parted p g x (passage 0 true r4) keeping (has_lifted 0 true r4) ∙ vertices; small = small }
 
           pub call_meetings : (l : ℕ) → l ≤ s0.level + 1 → All (λ (q : Part). l < length q.meetings) r4.parts
           call_meetings l within j d at =
@@ -131,7 +123,7 @@ module _ (p : Profile) (g : GraphShape) (x : List ℕ) (s0 : RisingLevels) (r0 :
                 within,
                 room,
                 ap (λ (q : Part). length q.meetings) (get_or_default r4.parts j d no_part at),
-                ap (λ (m : List (List Pair)). length m) (meetings4 g (passage 0 true r4) (has_lifted 0 true r4) j here),
+                ap (λ (m : List (List Pair)). length m) (meetings_lifted g (passage 0 true r4) (has_lifted 0 true r4) j here),
                 order.shape.meetings j here,
               )
 
@@ -167,10 +159,7 @@ module _ (p : Profile) (g : GraphShape) (x : List ℕ) (s0 : RisingLevels) (r0 :
               long5_ = risen.sized
 
               tells : (length r6.told ≡ length r5.parts) × ((j : ℕ) (d : _) → j < length r5.parts → length (get_or r6.told j d).lists ≡ length r5.parts)
-              tells = (
-                ap (λ ts. length ts) same6.1 ∙ told5.long ∙ sym long5_,
-                λ j d at. ap (λ ts. length (get_or ts j d).lists) same6.1 ∙ told5.lists j d (omega (arith, at, long5_)) ∙ sym long5_,
-              )
+              tells = grind (arith, nat_tests, long5_, same6.1, told5.long, told5.lists)
 
               -- each vertex on the level that counts many goes to the next, and each vertex counts its neighbours there or above
               pub next_step : IsLevelStep g (seen s0) (seen s3) (count_of r0) (count_of r6) s0.level most

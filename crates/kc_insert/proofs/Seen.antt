@@ -1,6 +1,6 @@
--- The levels during a sweep: what a write does to them and to those who rise.
-use Rattle.std.proofs.Common.{ℕ, ◌+◌, ◌<◌, ◌≡◌, leb, ◌≢◌, inl, inr, true, false, eqb, not, ◌&&◌, ◌||◌, List, length, get_or, set, ap, sym, ◌∙◌, arith}
-use Rattle.std.proofs.lemmas.Bool.{cases_eq, cases_lt, cases_Bool, true≢false}
+-- The levels during a sweep: what a write does to them and to the rising vertices.
+use Rattle.std.proofs.Common.{ℕ, ◌<◌, ◌≡◌, ◌≢◌, inl, inr, true, false, eqb, not, ◌&&◌, ◌||◌, List, length, get_or, set, ap, ◌∙◌, arith}
+use Rattle.std.proofs.lemmas.Bool.{cases_eq, true≢false}
 use Rattle.std.proofs.lemmas.Bool.Decides.{nat_tests}
 use Rattle.std.proofs.lemmas.List.{length-map, map-set, get_or-map, get_or-set_same, get_or-set_other, get_or_past}
 use Rattle.std.proofs.lemmas.Grind.{same_number_lists}
@@ -25,20 +25,10 @@ seen_high s v h high_ = seen_at s v h ∙ grind (arith, nat_tests, high_)
 pub seen_low : (s : RisingLevels) (v : ℕ) → v < length (seen s) → get_or s.stored v 0 ≢ 65535 → get_or (seen s) v 0 ≡ get_or s.stored v 0
 seen_low s v h low = seen_at s v h ∙ grind (arith, nat_tests, low)
 
--- below the level of the sweep a vertex is above a level where what stands for it in the list is
-pub above_same : (s : RisingLevels) (v l : ℕ) → l < s.level → l < 65535 → v < length (seen s) → leb (l + 1) (get_or s.stored v 0) ≡ leb (l + 1) (get_or (seen s) v 0)
-above_same s v l below small h = elim (cases_eq (get_or s.stored v 0) 65535) [
-  | inl high_ ↦ grind (arith, nat_tests, seen_high s v h high_, high_, below, small)
-  | inr low ↦ grind (arith, nat_tests, seen_low s v h low)
-]
-
--- who rises is on the level of the sweep
+-- a rising vertex is on the level of the sweep
 pub rises_inside : (s : RisingLevels) (v : ℕ) → rises s v ≡ true → v < length (seen s)
 unfolding rises
-rises_inside s v up = elim (cases_lt v (length s.stored)) [
-  | inl lt ↦ rw (length-seen s) lt
-  | inr past ↦ absurd (true≢false (sym up ∙ ap (λ k. eqb k 65535) (get_or_past s.stored v 0 past)))
-]
+rises_inside s v up = grind (arith, nat_tests, length-seen, true≢false, get_or_past)
 
 pub rises_at : (s : RisingLevels) (v : ℕ) → rises s v ≡ true → get_or (seen s) v 0 ≡ s.level
 unfolding rises
@@ -54,44 +44,26 @@ begun_seen s t v same is = rw (same, is) (map-set (level_of s.level) s.stored v 
 
 pub begun_rises : (s t : RisingLevels) (v : ℕ) → v < length (seen s) → t.stored ≡ set s.stored v 65535 → (u : ℕ) → rises t u ≡ rises s u || eqb u v
 unfolding rises
-begun_rises s t v inside is u = rw is (elim (cases_eq u v) [
-  | inl e ↦ rw e (grind (arith, nat_tests, get_or-set_same s.stored v 65535 0 (rw (length-seen s) at inside)))
-  | inr ne ↦ grind (arith, nat_tests, ne, get_or-set_other s.stored v u 65535 0 ne)
-])
+begun_rises s t v inside is u = grind (arith, nat_tests, get_or-set_same, length-seen, get_or-set_other)
 
-pub settled_seen : (s t : RisingLevels) (v : ℕ) → rises s v ≡ true → t.level ≡ s.level → t.stored ≡ set s.stored v s.level → seen t ≡ seen s
+pub stopped_seen : (s t : RisingLevels) (v : ℕ) → rises s v ≡ true → t.level ≡ s.level → t.stored ≡ set s.stored v s.level → seen t ≡ seen s
 unfolding seen rises
-settled_seen s t v up same is = rw (same, is) (map-set_same (level_of s.level) s.stored v s.level 0 (grind (arith, nat_tests, up)))
+stopped_seen s t v up same is = rw (same, is) (map-set_same (level_of s.level) s.stored v s.level 0 (grind (arith, nat_tests, up)))
 
-settled_rises_at : (s t : RisingLevels) (v : ℕ) → s.level < 65535 → v < length s.stored → t.stored ≡ set s.stored v s.level → (u : ℕ) → rises t u ≡ rises s u && not (eqb u v)
+stopped_rises_at : (s t : RisingLevels) (v : ℕ) → s.level < 65535 → v < length s.stored → t.stored ≡ set s.stored v s.level → (u : ℕ) → rises t u ≡ rises s u && not (eqb u v)
 unfolding rises
-settled_rises_at s t v small long is u = rw is (elim (cases_eq u v) [
+stopped_rises_at s t v small long is u = rw is (elim (cases_eq u v) [
   | inl e ↦ rw e (grind (arith, nat_tests, small, get_or-set_same s.stored v s.level 0 long))
   | inr ne ↦ grind (arith, nat_tests, ne, get_or-set_other s.stored v u s.level 0 ne)
 ])
 
-pub settled_rises : (s t : RisingLevels) (v : ℕ) → s.level < 65535 → rises s v ≡ true → t.stored ≡ set s.stored v s.level → (u : ℕ) → rises t u ≡ rises s u && not (eqb u v)
-settled_rises s t v small up is u = settled_rises_at s t v small (rw (length-seen s) at (rises_inside s v up)) is u
+pub stopped_rises : (s t : RisingLevels) (v : ℕ) → s.level < 65535 → rises s v ≡ true → t.stored ≡ set s.stored v s.level → (u : ℕ) → rises t u ≡ rises s u && not (eqb u v)
+stopped_rises s t v small up is u = stopped_rises_at s t v small (rw (length-seen s) at (rises_inside s v up)) is u
 
--- who rises depends on the list alone
+-- which vertices rise depends on the list alone
 pub same_rises : (s t : RisingLevels) → t.stored ≡ s.stored → (v : ℕ) → rises t v ≡ rises s v
 unfolding rises
 same_rises s t is v = ap (λ (k : List ℕ). eqb (get_or k v 0) 65535) is
 
 pub gone_seen : (s t : RisingLevels) (risers : List ℕ) → t.stored ≡ s.stored → ((v : ℕ) → rises s v ≡ has_number v risers) → seen t ≡ all_at (seen s) risers t.level
-gone_seen s t risers is who = same_number_lists (seen t) (all_at (seen s) risers t.level) long (λ v h. elim (cases_Bool (has_number v risers)) [
-  | inl there ↦ rises_at t v (same v ∙ who v ∙ there) ∙ sym (all_at_here (seen s) risers t.level v (inside v h) there)
-  | inr none ↦ stored_at t v h (same v ∙ who v ∙ none) ∙ ap (λ (k : List ℕ). get_or k v 0) is ∙ sym (stored_at s v (inside v h) (who v ∙ none)) ∙ sym (all_at_other (seen s) risers t.level v none)
-])
-  where
-    same : (v : ℕ) → rises t v ≡ rises s v
-    same v = same_rises s t is v
-
-    sized : length (seen t) ≡ length (seen s)
-    sized = length-seen t ∙ ap (λ (k : List ℕ). length k) is ∙ sym (length-seen s)
-
-    long : length (seen t) ≡ length (all_at (seen s) risers t.level)
-    long = sized ∙ sym (length-all_at (seen s) risers t.level)
-
-    inside : (v : ℕ) → v < length (seen t) → v < length (seen s)
-    inside v h = rw sized at h
+gone_seen s t risers is who = grind (arith, nat_tests, same_number_lists, rises_at, all_at_here, stored_at, all_at_other, same_rises, length-seen, length-all_at)

@@ -1,5 +1,5 @@
 -- What is told is heard the same, dealt to the ranges or one list after another.
-use Rattle.std.proofs.Common.{ℕ, suc, ◌+◌, ◌≤◌, ◌<◌, ◌≡◌, inl, inr, Bool, true, cond, eqb, ◌&&◌, List, [], ◌∷◌, ◌++◌, length, get_or, take, drop, refl, ap, sym, subst, ◌∙◌, arith}
+use Rattle.std.proofs.Common.{ℕ, suc, ◌+◌, ◌≤◌, ◌<◌, ◌≡◌, inl, inr, true, eqb, List, [], ◌∷◌, ◌++◌, length, get_or, take, drop, refl, ap, sym, subst, ◌∙◌, arith}
 use Rattle.std.specs.Prelude.{All}
 use Rattle.std.proofs.lemmas.Bool.{cases_lt}
 use Rattle.std.proofs.lemmas.Bool.Decides.{nat_tests}
@@ -8,27 +8,18 @@ use Rattle.std.proofs.lemmas.List.Elements.{filter-append}
 use Rattle.std.proofs.lemmas.Grind.{flat_map-append}
 use Rattle.kc_graph.specs.Numbers.{has_number}
 use Rattle.kc_insert.specs.private.Parts.{CanHearLess, CanHearMore, HasHeardLess, HaveMet}
-use Rattle.kc_insert.specs.Ranges.{IsHeld, Part, range_of, Tell}
+use Rattle.kc_insert.specs.Ranges.{HasVertex, Part, range_of, Tell}
 use Rattle.kc_insert.specs.private.Sharing.{AreFew, AreTold, CanLessen, CanMeet, HearLess, HearMore, told_all}
 use Rattle.kc_insert.specs.private.Telling.{heard_by, in_range, times}
 use Rattle.kc_insert.specs.private.Watched.{count_at}
-use Rattle.kc_insert.proofs.Adding.{times-append, times-filter, times_some, times_there}
+use Rattle.kc_insert.proofs.Adding.{in_range_times, times-append, times_some, times_there}
 use Rattle.kc_insert.proofs.Buckets.{has_number-filter}
 use Rattle.kc_insert.proofs.Direct.{heard_none}
 use Rattle.kc_insert.proofs.Meeting.{met_none, met_on}
 use Rattle.kc_insert.proofs.Watching.{watched_on}
 
-pub in_range_times : (bits v : ℕ) (xs : List ℕ) → times v (in_range bits (range_of bits v) xs) ≡ times v xs
-in_range_times bits v xs = times-filter v (λ u. eqb (range_of bits u) (range_of bits v)) xs ∙ whole (range_of bits v) (times v xs)
-  where
-    whole : (j k : ℕ) → cond (eqb j j) k 0 ≡ k
-    whole j k = grind (arith, nat_tests)
-
 pub in_range_has : (bits j v : ℕ) (xs : List ℕ) → has_number v (in_range bits j xs) ≡ true → (has_number v xs ≡ true) × (range_of bits v ≡ j)
-in_range_has bits j v xs there = split (has_number v xs) (range_of bits v) (sym (has_number-filter v (λ u. eqb (range_of bits u) j) xs) ∙ there)
-  where
-    split : (b : Bool) (k : ℕ) → b && eqb k j ≡ true → (b ≡ true) × (k ≡ j)
-    split b k e = (grind (arith, nat_tests, e), grind (arith, nat_tests, e))
+in_range_has bits j v xs there = grind (arith, nat_tests, has_number-filter)
 
 in_range_append : (bits j : ℕ) (xs ys : List ℕ) → in_range bits j (xs ++ ys) ≡ in_range bits j xs ++ in_range bits j ys
 in_range_append bits j xs ys = filter-append (λ u. eqb (range_of bits u) j) xs ys
@@ -83,7 +74,7 @@ module _ (bits : ℕ) (told : List Tell) (old : List Part) (can : CanLessen bits
       lists = λ k t h. omega (arith, at, lists.sized k t h);
       held = λ v there.
           let in_it = in_range_has bits i v (told_all told) (ap (has_number v) (sym is) ∙ there) in
-          subst (λ j. IsHeld (get_or old j d).watch v) in_it.1 (can.held v d in_it.0).1;
+          subst (λ j. HasVertex (get_or old j d).watch v) in_it.1 (can.held v d in_it.0).1;
       enough = λ v. elim (cases_lt 0 (times v (heard_by i told))) [
         | inr none ↦ omega (arith, none)
         | inl some ↦
@@ -97,7 +88,7 @@ module _ (bits : ℕ) (told : List Tell) (old : List Part) (can : CanLessen bits
 
   -- one list after another
   module _ (i : ℕ) (t : Tell) (at : i < length told) (new : List Part) (s : HearLess bits (told_all (take i told)) old new) where
-    pub next_held : (v : ℕ) (d : Part) → has_number v (get_or told i t).all ≡ true → (range_of bits v < length new) × IsHeld (get_or new (range_of bits v) d).watch v
+    pub next_held : (v : ℕ) (d : Part) → has_number v (get_or told i t).all ≡ true → (range_of bits v < length new) × HasVertex (get_or new (range_of bits v) d).watch v
     next_held v d there =
         let was = can.held v d (told_there told i t at v there) in
         let now = s.each (range_of bits v) d was.0 in (
@@ -106,10 +97,7 @@ module _ (bits : ℕ) (told : List Tell) (old : List Part) (can : CanLessen bits
         )
 
     pub next_enough : (v : ℕ) (d : Part) → has_number v (get_or told i t).all ≡ true → times v (get_or told i t).all ≤ count_at (get_or new (range_of bits v) d).watch v
-    next_enough v d there =
-        let was = can.held v d (told_there told i t at v there) in
-        let now = s.each (range_of bits v) d was.0 in
-        omega (arith, now.less v was.1.from, in_range_times bits v (told_all (take i told)), told_part told i t at v, can.enough v d (told_there told i t at v there))
+    next_enough v d there = grind (arith, nat_tests, told_there, in_range_times, told_part, can.held, can.enough)
 
     pub next_heard : (last : List Part) → HearLess bits (get_or told i t).all new last → HearLess bits (told_all (take (i + 1) told)) old last
     next_heard last u = subst (λ (xs : List ℕ). HearLess bits xs old last) (sym (told_more told i t at)) (hear_both bits (told_all (take i told)) (get_or told i t).all old new last s u)
@@ -135,7 +123,7 @@ module _ (bits level : ℕ) (told : List Tell) (old : List Part) (can : CanMeet 
       lists = λ k t h. omega (arith, at, lists.sized k t h);
       held = λ v there.
           let in_it = in_range_has bits i v (told_all told) (ap (has_number v) (sym same) ∙ there) in
-          subst (λ j. IsHeld (get_or old j d).watch v) in_it.1 (can.held v d in_it.0).1;
+          subst (λ j. HasVertex (get_or old j d).watch v) in_it.1 (can.held v d in_it.0).1;
       small = λ v. elim (cases_lt 0 (times v (heard_by i told))) [
         | inr none ↦ omega (arith, none, few i d v at)
         | inl some ↦
@@ -153,7 +141,7 @@ module _ (bits level : ℕ) (told : List Tell) (old : List Part) (can : CanMeet 
     begun : (j : ℕ) (d : Part) → j < length old → (get_or new j d).watch.first ≡ (get_or old j d).watch.first
     begun j d h = ap (λ (p : Part). p.watch.first) (s.each j d h).part
 
-    pub next_there : (v : ℕ) (d : Part) → has_number v (get_or told i t).all ≡ true → (range_of bits v < length new) × IsHeld (get_or new (range_of bits v) d).watch v
+    pub next_there : (v : ℕ) (d : Part) → has_number v (get_or told i t).all ≡ true → (range_of bits v < length new) × HasVertex (get_or new (range_of bits v) d).watch v
     next_there v d there =
         let was = can.held v d (told_there told i t at v there) in
         let now = s.each (range_of bits v) d was.0 in (
@@ -162,10 +150,7 @@ module _ (bits level : ℕ) (told : List Tell) (old : List Part) (can : CanMeet 
         )
 
     pub next_small : (v : ℕ) (d : Part) → has_number v (get_or told i t).all ≡ true → count_at (get_or new (range_of bits v) d).watch v + times v (get_or told i t).all ≤ 2147483648
-    next_small v d there =
-        let was = can.held v d (told_there told i t at v there) in
-        let now = s.each (range_of bits v) d was.0 in
-        omega (arith, now.more v was.1.from, in_range_times bits v (told_all (take i told)), told_part told i t at v, can.small v d (told_there told i t at v there))
+    next_small v d there = grind (arith, nat_tests, told_there, in_range_times, told_part, can.held, can.small)
 
     pub next_room : (j : ℕ) (d : Part) → j < length new → level < length (get_or new j d).queue
     next_room j d h = omega (arith, can.room j d (omega (arith, h, s.sized)), (s.each j d (omega (arith, h, s.sized))).levels)

@@ -1,20 +1,18 @@
--- Those who rise and count few stay on the level, one after another.
-use Rattle.std.proofs.Common.{ℕ, ◌+◌, ◌≤◌, ◌<◌, ◌≡◌, inl, inr, true, false, eqb, not, ◌&&◌, List, [], ◌∷◌, ◌++◌, length, get_or, set, drop, add-one, refl, ap, sym, ◌∙◌, arith, subst}
+-- Rising vertices of a range that count few stay on the level, one after another.
+use Rattle.std.proofs.Common.{ℕ, ◌+◌, ◌≤◌, ◌<◌, ◌≡◌, inl, inr, true, false, eqb, not, ◌&&◌, List, [], ◌∷◌, ◌++◌, length, get_or, ap, sym, ◌∙◌, arith, subst}
 use Rattle.std.proofs.lemmas.Bool.{cases_eq, true≢false}
 use Rattle.std.proofs.lemmas.Bool.Decides.{nat_tests}
-use Rattle.std.proofs.lemmas.List.{drop_all}
 use Rattle.std.proofs.lemmas.Grind.{same_number_lists}
-use Rattle.std.proofs.Math.Seq.{drop-cons}
 use Rattle.kc_graph.specs.Numbers.{has_number}
 use Rattle.kc_graph.proofs.lemmas.Numbers.{has_number-push, has_number_index}
 use Rattle.kc_levels.specs.Following.{AreDistinct}
+use Rattle.kc_levels.proofs.lemmas.Moves.{distinct_push}
 use Rattle.kc_insert.specs.declared.rising.RisingLevels.{RisingLevels}
 use Rattle.kc_insert.specs.private.Rising.{rises, seen}
 use Rattle.kc_insert.specs.private.Parts.{LetStay}
 use Rattle.kc_insert.specs.private.Watched.{count_at}
 use Rattle.kc_insert.specs.Ranges.{Watch}
 use Rattle.kc_insert.proofs.Buckets.{pushed_is}
-use Rattle.kc_insert.proofs.Lifting.{distinct-push}
 use Rattle.kc_insert.proofs.Seen.{length-seen, stored_at}
 
 -- of those written down, in `listed`, those before the place i were looked at
@@ -28,15 +26,7 @@ pub record IsLettingStay (old : RisingLevels) (watch : Watch) (listed : List ℕ
   pub distinct : AreDistinct stay
 
 pub letting_first : (old : RisingLevels) (watch : Watch) (listed : List ℕ) (stay : List ℕ) → stay ≡ [] → IsLettingStay old watch listed 0 old stay
-letting_first old watch listed stay none = rw none (record {
-  level = refl;
-  seen_on = refl;
-  rises_on = λ v. grind (arith, nat_tests);
-  stays = λ v there. absurd (true≢false (sym there));
-  from = λ v there. absurd (true≢false (sym there));
-  over = λ j h. absurd (omega (arith, h));
-  distinct = record {};
-})
+letting_first old watch listed stay none = grind (arith, nat_tests, true≢false)
 
 module _ (old : RisingLevels) (watch : Watch) (listed : List ℕ) (i : ℕ) (new : RisingLevels) (stay : List ℕ) (s : IsLettingStay old watch listed i new stay) where
   abbrev item : ℕ
@@ -59,7 +49,7 @@ module _ (old : RisingLevels) (watch : Watch) (listed : List ℕ) (i : ℕ) (new
       | inr ne ↦ s.over j (omega (arith, h, ne)) (grind (arith, nat_tests, up, left (get_or listed j 0)))
       | inl e ↦ absurd (true≢false (sym (ap (λ k. rises next (get_or listed k 0)) (sym e) ∙ up) ∙ gone))
     ];
-    distinct = distinct-push stay item s.distinct fresh;
+    distinct = distinct_push stay item s.distinct fresh;
   }
     where
       was : rises old item ≡ true
@@ -96,43 +86,8 @@ letting_last old w i new stay end s = record {
   distinct = s.distinct;
 }
 
--- those who still rise stay where they are, one after another
-pub record IsSettlingAll (old new : RisingLevels) (rest : List ℕ) : Type 0 where
-  pub level : new.level ≡ old.level
-  pub seen_on : seen new ≡ seen old
-  pub rise : (v : ℕ) → rises new v ≡ has_number v rest
-  pub distinct : AreDistinct rest
-
-module _ (old new : RisingLevels) (risers : List ℕ) (i : ℕ) (at : i < length risers) (s : IsSettlingAll old new (drop i risers)) where
-  next_riser : IsSettlingAll old new (get_or risers i 0 ∷ drop (i + 1) risers)
-  next_riser = subst (IsSettlingAll old new) split s
-    where
-      split : drop i risers ≡ get_or risers i 0 ∷ drop (i + 1) risers
-      split = rw add-one (drop-cons risers i 0 at)
-
-  pub settling_rises : rises new (get_or risers i 0) ≡ true
-  settling_rises = next_riser.rise (get_or risers i 0) ∙ grind (arith, nat_tests)
-
-  pub settling_next : (next : RisingLevels) → next.level ≡ new.level → seen next ≡ seen new → ((u : ℕ) → rises next u ≡ rises new u && not (eqb u (get_or risers i 0))) → IsSettlingAll old next (drop (i + 1) risers)
-  settling_next next level same left = record {
-    level = level ∙ next_riser.level;
-    seen_on = same ∙ next_riser.seen_on;
-    rise = λ u. left u ∙ elim (cases_eq u (get_or risers i 0)) [
-      | inl e ↦ grind (arith, nat_tests, e) ∙ sym (ap (λ v. has_number v (drop (i + 1) risers)) e ∙ next_riser.distinct.0)
-      | inr ne ↦ grind (arith, nat_tests, ne, next_riser.rise u)
-    ];
-    distinct = next_riser.distinct.1;
-  }
-
 -- where nobody rises the levels are those in the list
 pub nobody_rises : (s : RisingLevels) → ((v : ℕ) → rises s v ≡ false) → s.stored ≡ seen s
 nobody_rises s none = same_number_lists s.stored (seen s) (sym (length-seen s)) (λ v h. sym (stored_at s v (rw (length-seen s) h) (none v)))
 
-pub settled_all : (old new : RisingLevels) (risers : List ℕ) (i : ℕ) → length risers ≤ i → IsSettlingAll old new (drop i risers) → new.stored ≡ seen old
-settled_all old new risers i end s =
-    let t : IsSettlingAll old new [] = rw (drop_all i risers end) at s in
-    nobody_rises new (λ v. t.rise v) ∙ t.seen_on
-
 -- one more begins to rise, and is on the level k
-pub lifted_seen : (old new : RisingLevels) (v k : ℕ) → seen new ≡ set (seen old) v old.level → old.level ≡ k → seen new ≡ set (seen old) v k
-lifted_seen old new v k is level = is ∙ ap (set (seen old) v) level

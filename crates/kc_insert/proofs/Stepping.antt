@@ -1,6 +1,6 @@
 -- The step of a sweep from its level to the next keeps what is stated of the sweep.
-use Rattle.std.proofs.Common.{ℕ, ◌+◌, ◌*◌, ◌≤◌, ◌<◌, ◌≡◌, ◌≢◌, ◌⊎◌, inl, inr, Bool, true, false, leb, eqb, not, ◌&&◌, ◌||◌, List, length, get_or, filter, refl, ap, sym, ◌∙◌, arith, subst}
-use Rattle.std.proofs.lemmas.Bool.{cases_lt, cases_eq, cases_Bool, true≢false}
+use Rattle.std.proofs.Common.{ℕ, ◌+◌, ◌*◌, ◌≤◌, ◌<◌, ◌≡◌, ◌≢◌, ◌⊎◌, inl, inr, Bool, true, false, eqb, not, ◌&&◌, ◌||◌, List, length, get_or, filter, refl, ap, sym, ◌∙◌, arith, subst}
+use Rattle.std.proofs.lemmas.Bool.{cases_Bool, or_right, true≢false}
 use Rattle.std.proofs.lemmas.Bool.Decides.{nat_tests}
 use Rattle.std.proofs.lemmas.List.{get_or_past}
 use Rattle.std.proofs.lemmas.Grind.{same_number_lists}
@@ -20,7 +20,7 @@ use Rattle.kc_insert.specs.private.Rising.{all_at}
 use Rattle.kc_insert.specs.private.Sweeping.{AreAwaited, AreRising, IsAwaited, IsPaid, IsPlaced, IsSweeping, Sweeping}
 use Rattle.kc_insert.proofs.Buckets.{has_number-filter}
 use Rattle.kc_insert.proofs.Efforts.{effort_up}
-use Rattle.kc_insert.proofs.Flips.{count_agree}
+use Rattle.kc_insert.proofs.Tests.{count_agree, less_differs, or_either}
 use Rattle.kc_insert.proofs.Lifting.{length-all_at, all_at_here, all_at_other}
 use Rattle.kc_insert.proofs.Members.{distinct_filter, weigh, weigh_degrees, weigh_length, weigh_parts}
 
@@ -31,50 +31,21 @@ module _ (p : Profile) (g : GraphShape) (x : List ℕ) (s : Sweeping) (i : IsSwe
 
   -- a vertex on another level doesn't rise
   pub off_level : (v : ℕ) → get_or s.levels v 0 ≢ s.level → has_number v s.rising ≡ false
-  off_level v off = elim (cases_Bool (has_number v s.rising)) [
-    | inr none ↦ none
-    | inl there ↦ absurd (off (i.rise.came v there).1)
-  ]
+  off_level v off = grind (arith, nat_tests)
 
   -- a vertex that stood on the level or above doesn't rise, and is there
   pub stood_above : (v : ℕ) → s.level ≤ get_or x v 0 → (has_number v s.rising ≡ false) × (get_or s.levels v 0 ≡ get_or x v 0)
-  stood_above v at =
-      let none : has_number v s.rising ≡ false = elim (cases_Bool (has_number v s.rising)) [
-        | inr none ↦ none
-        | inl there ↦ absurd (omega (arith, at, (i.rise.came v there).2))
-      ] in
-      (none, i.placed.stood v (omega (arith, at, under v)) none)
+  stood_above v at = grind (arith, nat_tests, under)
 
   pub waits_here : (k v : ℕ) → s.level ≤ k → has_number v (s.waits k) ≡ true → (v < g.vertices) × (get_or x v 0 ≡ k) × (get_or s.levels v 0 ≡ k) × (has_number v s.rising ≡ false)
-  waits_here k v at there =
-      let it = i.awaited.waiting k v at there in
-      let stood = stood_above v (omega (arith, at, it.1)) in
-      (it.0, it.1, stood.1 ∙ it.1, stood.0)
+  waits_here k v at there = grind (arith, nat_tests, stood_above)
 
   -- a vertex that rose stood below the level
   pub rose_below : (v : ℕ) → has_number v s.risen ≡ true → (v < g.vertices) × (get_or x v 0 < s.level)
-  rose_below v rose =
-      let moved : is_moved x s.levels v ≡ true = sym (i.rise.moved v) ∙ rose in
-      let ne : get_or x v 0 ≢ get_or s.levels v 0 = differ (get_or x v 0) (get_or s.levels v 0) moved in
-      let inside : v < g.vertices = elim (cases_lt v g.vertices) [
-        | inl h ↦ h
-        | inr past ↦ absurd (ne (get_or_past x v 0 (omega (arith, past, i.placed.start)) ∙ sym (get_or_past s.levels v 0 (omega (arith, past, i.placed.raising.sized)))))
-      ] in (
-        inside,
-        elim (cases_lt (get_or x v 0) s.level) [
-          | inl lt ↦ lt
-          | inr ge ↦ absurd (ne (sym (stood_above v ge).1))
-        ],
-      )
-    where
-      differ : (a b : ℕ) → not (eqb a b) ≡ true → a ≢ b
-      differ a b e = grind (arith, nat_tests, e)
+  rose_below v rose = grind (arith, nat_tests, get_or_past, stood_above)
 
   pub rises_rose : (v : ℕ) → has_number v s.rising ≡ true → has_number v s.risen ≡ true
-  rises_rose v there = let it = i.rise.came v there in i.rise.moved v ∙ differs (get_or x v 0) (get_or s.levels v 0) (omega (arith, it.1, it.2))
-    where
-      differs : (a b : ℕ) → a < b → not (eqb a b) ≡ true
-      differs a b lt = grind (arith, nat_tests, lt)
+  rises_rose v there = let it = i.rise.came v there in i.rise.moved v ∙ less_differs (get_or x v 0) (get_or s.levels v 0) (omega (arith, it.1, it.2))
 
   pub count_at_level : (v k : ℕ) → v < g.vertices → get_or s.levels v 0 ≡ k → s.count v ≡ at_least g s.levels v k
   count_at_level v k h on = i.awaited.counted v h ∙ ap (at_least g s.levels v) on
@@ -84,9 +55,7 @@ module _ (p : Profile) (g : GraphShape) (x : List ℕ) (s : Sweeping) (i : IsSwe
   few_meets v k h on few = subst (λ j. at_least g s.levels v j ≤ high p (group_of p g.vertices j)) (sym on) (omega (arith, few, count_at_level v k h on))
 
   pub many_breaks : (v k : ℕ) → v < g.vertices → get_or s.levels v 0 ≡ k → high p (group_of p g.vertices k) < s.count v → ¬ (MeetsUpper p g s.levels v)
-  many_breaks v k h on many meets =
-      let few : at_least g s.levels v k ≤ high p (group_of p g.vertices k) = subst (λ j. at_least g s.levels v j ≤ high p (group_of p g.vertices j)) on meets in
-      absurd (omega (arith, few, many, count_at_level v k h on))
+  many_breaks v k h on many meets = grind (arith, nat_tests, count_at_level)
 
 module _ (p : Profile) (g : GraphShape) (x : List ℕ) (s t : Sweeping) (most above : ℕ) (i : IsSweeping p g x s) (r : HasStepped g x s t most above) where
   long : length t.levels ≡ g.vertices
@@ -100,56 +69,25 @@ module _ (p : Profile) (g : GraphShape) (x : List ℕ) (s t : Sweeping) (most ab
   IsCase v = ((v < g.vertices) × (get_or s.levels v 0 ≡ s.level) × (most < s.count v) × (get_or t.levels v 0 ≡ s.level + 1) × (has_number v t.rising ≡ true)) ⊎ ((get_or t.levels v 0 ≡ get_or s.levels v 0) × (has_number v t.rising ≡ false) × (v < g.vertices → get_or s.levels v 0 ≡ s.level → s.count v ≤ most))
 
   pub case_of : (v : ℕ) → IsCase v
-  case_of v = elim (cases_Bool (has_number v t.rising)) [
-    | inl there ↦ let it = r.lifted.rise v there in inl (it.0, it.1, it.2, r.step.goes v it.0 it.1 it.2, there)
-    | inr none ↦ inr (
-      elim (cases_lt v g.vertices) [
-        | inr past ↦ past_end v past
-        | inl h ↦ elim (cases_eq (get_or s.levels v 0) s.level) [
-          | inr off ↦ r.step.others v off
-          | inl on ↦ r.step.stays v h on (few v none h on) ∙ sym on
-        ]
-      ],
-      none,
-      few v none,
-    )
-  ]
-    where
-      few : (v : ℕ) → has_number v t.rising ≡ false → v < g.vertices → get_or s.levels v 0 ≡ s.level → s.count v ≤ most
-      few v none h on = elim (cases_lt most (s.count v)) [
-        | inr le ↦ le
-        | inl over ↦ absurd (true≢false (sym (r.lifted.all v h on over) ∙ none))
-      ]
+  case_of v = grind (arith, nat_tests, past_end, true≢false, r.lifted.rise, r.step.goes, r.step.others, r.step.stays, r.lifted.all)
 
   -- the number of neighbours from a level on is the same in both lists, but for the level that some come to
   same_count : (v k : ℕ) → k ≢ s.level + 1 → at_least g s.levels v k ≡ at_least g t.levels v k
   unfolding at_least
-  same_count v k ne = count_agree (λ u. leb k (get_or s.levels u 0)) (λ u. leb k (get_or t.levels u 0)) (neighbours_of v g.edges) (λ u near. agree u (case_of u))
-    where
-      agree : (u : ℕ) → IsCase u → leb k (get_or s.levels u 0) ≡ leb k (get_or t.levels u 0)
-      agree u (inl it) = grind (arith, nat_tests, it.1, it.3, ne)
-      agree u (inr it) = ap (leb k) (sym it.0)
+  same_count v k ne = grind (arith, nat_tests, count_agree, case_of)
 
   came_on : (v : ℕ) → has_number v t.rising ≡ true → (v < g.vertices) × (get_or t.levels v 0 ≡ t.level) × (get_or x v 0 < t.level)
-  came_on v there =
-      let it = r.lifted.rise v there in
-      (it.0, r.step.goes v it.0 it.1 it.2 ∙ sym r.level, omega (arith, under p g x s i v, it.1, r.level))
+  came_on v there = grind (arith, nat_tests, under, r.lifted.rise, r.step.goes, r.level)
 
   stood_on : (v : ℕ) → t.level ≤ get_or t.levels v 0 → has_number v t.rising ≡ false → get_or t.levels v 0 ≡ get_or x v 0
-  stood_on v at none = elim (case_of v) [
-    | inl it ↦ absurd (true≢false (sym it.4 ∙ none))
-    | inr it ↦ it.0 ∙ i.placed.stood v (omega (arith, at, it.0, r.level)) (off_level p g x s i v (λ on. absurd (omega (arith, at, it.0, r.level, on))))
-  ]
+  stood_on v at none = grind (arith, nat_tests, case_of, true≢false, off_level, i.placed.stood, r.level)
 
   moved_on : (v : ℕ) → has_number v t.risen ≡ is_moved x t.levels v
   moved_on v = r.lifted.risen v ∙ elim (case_of v) [
-    | inl it ↦ ap (λ b. has_number v s.risen || b) it.4 ∙ or_true (has_number v s.risen) ∙ sym (differs (get_or x v 0) (get_or t.levels v 0) (omega (arith, under p g x s i v, it.1, it.3)))
+    | inl it ↦ ap (λ b. has_number v s.risen || b) it.4 ∙ or_true (has_number v s.risen) ∙ sym (less_differs (get_or x v 0) (get_or t.levels v 0) (omega (arith, under p g x s i v, it.1, it.3)))
     | inr it ↦ ap (λ b. has_number v s.risen || b) it.1 ∙ or_false (has_number v s.risen) ∙ i.rise.moved v ∙ ap (λ k. not (eqb (get_or x v 0) k)) (sym it.0)
   ]
     where
-      differs : (a b : ℕ) → a < b → not (eqb a b) ≡ true
-      differs a b lt = grind (arith, nat_tests, lt)
-
       or_true : (b : Bool) → b || true ≡ true
       or_true b = grind (arith, nat_tests)
 
@@ -175,39 +113,10 @@ module _ (p : Profile) (g : GraphShape) (x : List ℕ) (s t : Sweeping) (most ab
 
     -- a vertex that stood on the next level
     found_next : (v : ℕ) → v < g.vertices → get_or s.levels v 0 ≡ s.level + 1 → get_or t.levels v 0 ≡ s.level + 1 → MeetsUpper p g t.levels v ⊎ IsAwaited t v
-    found_next v h on now = elim (cases_lt above (t.count v)) [
-      | inr few ↦ inl (subst (λ k. at_least g t.levels v k ≤ high p (group_of p g.vertices k)) (sym now) (omega (arith, few, above_is, r.step.counted v h, ap (at_least g t.levels v) now)))
-      | inl many ↦ inr (inr (omega (arith, r.level, now), ap (λ k. has_number v (t.waits k)) now ∙ waits many))
-    ]
-      where
-        none : has_number v s.rising ≡ false
-        none = off_level p g x s i v (λ e. absurd (omega (arith, on, e)))
-
-        waits : above < t.count v → has_number v (t.waits (s.level + 1)) ≡ true
-        waits many = elim (r.waiting.noted v h (sym (i.placed.stood v (omega (arith, on)) none) ∙ on) many) [
-          | inr there ↦ there
-          | inl was ↦ elim (i.awaited.found v h) [
-            | inl meets ↦ absurd (many_breaks p g x s i v (s.level + 1) h on (omega (arith, was, above_is)) meets)
-            | inr (inl rises) ↦ absurd (true≢false (sym rises ∙ none))
-            | inr (inr it) ↦ r.waiting.still (s.level + 1) v (λ e. absurd (omega (arith, e))) (ap (λ k. has_number v (s.waits k)) (sym on) ∙ it.1)
-          ]
-        ]
+    found_next v h on now = grind (arith, nat_tests, off_level, many_breaks, true≢false, r.step.counted, r.level, r.waiting.noted, i.placed.stood, i.awaited.found, r.waiting.still)
 
     found_on : (v : ℕ) → v < g.vertices → MeetsUpper p g t.levels v ⊎ IsAwaited t v
-    found_on v h = elim (case_of v) [
-      | inl it ↦ inr (inl it.4)
-      | inr it ↦ elim (cases_eq (get_or s.levels v 0) s.level) [
-        | inl on ↦ inl (meets_still v it.0 (λ e. absurd (omega (arith, e, on))) (few_meets p g x s i v s.level h on (omega (arith, it.2 h on, most_is))))
-        | inr off ↦ elim (cases_eq (get_or s.levels v 0) (s.level + 1)) [
-          | inl next ↦ found_next v h next (it.0 ∙ next)
-          | inr far ↦ elim (i.awaited.found v h) [
-            | inl meets ↦ inl (meets_still v it.0 far meets)
-            | inr (inl rises) ↦ absurd (off (i.rise.came v rises).1)
-            | inr (inr waits) ↦ inr (inr (omega (arith, r.level, it.0, waits.0, off), ap (λ k. has_number v (t.waits k)) it.0 ∙ r.waiting.still (get_or s.levels v 0) v off waits.1))
-          ]
-        ]
-      ]
-    ]
+    found_on v h = grind (arith, nat_tests, case_of, meets_still, few_meets, found_next, i.awaited.found, i.rise.came, r.level, r.waiting.still)
 
     awaited_on : AreAwaited p g x t
     awaited_on = record {
@@ -219,24 +128,18 @@ module _ (p : Profile) (g : GraphShape) (x : List ℕ) (s t : Sweeping) (most ab
       found = found_on;
       met = λ k v w at there. elim (r.meeting.only k v w (omega (arith, at, r.level)) there) [
         | inl was ↦ let it = i.awaited.met k v w (omega (arith, at, r.level)) was in (r.lifted.risen v ∙ ap (λ b. b || has_number v t.rising) it.0, it.1)
-        | inr new ↦ (r.lifted.risen v ∙ right (has_number v s.risen) (has_number v t.rising) new.0, new.1)
+        | inr new ↦ (r.lifted.risen v ∙ or_right (has_number v s.risen) (has_number v t.rising) new.0, new.1)
       ];
       each = λ k v w at rose it. elim (cases_Bool (has_number v s.risen)) [
         | inl was ↦ r.meeting.still k v w (omega (arith, at, r.level)) (i.awaited.each k v w (omega (arith, at, r.level)) was it)
         | inr new ↦
-            let rises : has_number v t.rising ≡ true = other (has_number v s.risen) (has_number v t.rising) (sym (r.lifted.risen v) ∙ rose) new in
+            let rises : has_number v t.rising ≡ true = or_either (has_number v s.risen) (has_number v t.rising) (sym (r.lifted.risen v) ∙ rose) new in
             let from : get_or x v 0 ≡ get_or s.levels v 0 = same (get_or x v 0) (get_or s.levels v 0) (sym (i.rise.moved v) ∙ new) in
             r.meeting.each k v w (omega (arith, at, r.level)) rises (from ∙ (r.lifted.rise v rises).1) it
       ];
       apart = λ k at. r.meeting.apart k (omega (arith, at, r.level));
     }
       where
-        right : (a b : Bool) → b ≡ true → a || b ≡ true
-        right a b e = grind (arith, nat_tests, e)
-
-        other : (a b : Bool) → a || b ≡ true → a ≡ false → b ≡ true
-        other a b e f = grind (arith, nat_tests, e, f)
-
         same : (a b : ℕ) → not (eqb a b) ≡ false → a ≡ b
         same a b e = grind (arith, nat_tests, e)
 
@@ -246,10 +149,7 @@ module _ (p : Profile) (g : GraphShape) (x : List ℕ) (s t : Sweeping) (most ab
 
   -- the levels after the step
   levels_are : t.levels ≡ all_at s.levels t.rising (s.level + 1)
-  levels_are = same_number_lists t.levels (all_at s.levels t.rising (s.level + 1)) (r.step.sized ∙ sym (length-all_at s.levels t.rising (s.level + 1))) (λ v h. elim (case_of v) [
-    | inl it ↦ it.3 ∙ sym (all_at_here s.levels t.rising (s.level + 1) v (omega (arith, it.0, i.placed.raising.sized)) it.4)
-    | inr it ↦ it.0 ∙ sym (all_at_other s.levels t.rising (s.level + 1) v it.1)
-  ])
+  levels_are = grind (arith, nat_tests, same_number_lists, length-all_at, case_of, all_at_here, all_at_other, r.step.sized, i.placed.raising.sized)
 
   module _ (stay begun : List ℕ) (passed : ArePassed s t stay begun) (f : ℕ → ℕ) where
     -- the vertices that rose, and those that began

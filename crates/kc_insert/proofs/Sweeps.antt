@@ -1,38 +1,18 @@
 -- How a sweep begins, goes on to the next level where a vertex waits, and ends.
-use Rattle.std.proofs.Common.{ℕ, ◌≤◌, ◌<◌, ◌≡◌, inl, inr, true, false, not, eqb, List, [], length, get_or, refl, ap, sym, ◌∙◌, arith, subst}
+use Rattle.std.proofs.Common.{ℕ, ◌≤◌, ◌<◌, ◌≡◌, inl, inr, true, List, [], length, get_or, ap, sym, ◌∙◌, arith}
 use Rattle.std.proofs.lemmas.Bool.{cases_lt, true≢false}
 use Rattle.std.proofs.lemmas.Bool.Decides.{nat_tests}
 use Rattle.kc_graph.specs.Numbers.{has_number}
-use Rattle.kc_graph.specs.Shape.{GraphShape, Pair, IsGraph, has_edge}
+use Rattle.kc_graph.specs.Shape.{GraphShape, Pair, IsGraph}
 use Rattle.kc_levels.specs.declared.profile.Profile.{Profile}
 use Rattle.kc_levels.specs.Thresholds.{top_level}
 use Rattle.kc_levels.specs.LevelList.{IsCapped, IsRaised}
 use Rattle.kc_levels.proofs.lemmas.Raising.{raising_first, raising_done, top_meets_upper}
-use Rattle.kc_insert.specs.private.Meetings.{AreApart}
 use Rattle.kc_insert.specs.private.Sweeping.{AreCounted, IsFirst, IsPaid, IsQueued, IsSweeping, Sweeping}
 use Rattle.kc_insert.proofs.Efforts.{effort_none}
 
 sweeping_first : (p : Profile) (g : GraphShape) (x y : List ℕ) (count : ℕ → ℕ) (rising risen : List ℕ) (waits : ℕ → List ℕ) (meets : ℕ → List Pair) → length x ≡ g.vertices → IsCapped p g.vertices x → y ≡ x → AreCounted g x count → IsQueued p g x waits → rising ≡ [] → risen ≡ [] → ((k : ℕ) → meets k ≡ []) → IsSweeping p g x (record { level = 0; levels = y; count = count; rising = rising; risen = risen; waits = waits; meets = meets })
-sweeping_first p g x y count rising risen waits meets long capped same counted q none none_yet empty = rw (same, none, none_yet) (record {
-  placed = record { start = long; raising = raising_first p g x long capped; stood = λ v at off. refl };
-  rise = record {
-    came = λ v there. absurd (true≢false (sym there));
-    distinct = record {};
-    moved = λ v. unmoved (get_or x v 0);
-    once = record {};
-  };
-  awaited = record {
-    counted = counted;
-    waiting = λ k v at there. q.waiting k v there;
-    found = λ v h. elim (q.found v h) [ inl waits_ ↦ inr (inr (omega arith, waits_)) | inr meets_ ↦ inl meets_ ];
-    met = λ k v w at there. absurd (true≢false (sym there ∙ ap (has_edge (v, w)) (empty k)));
-    each = λ k v w at rose it. absurd (true≢false (sym rose));
-    apart = λ k at. subst AreApart (sym (empty k)) (record {});
-  };
-})
-  where
-    unmoved : (a : ℕ) → false ≡ not (eqb a a)
-    unmoved a = grind (arith, nat_tests)
+sweeping_first p g x y count rising risen waits meets long capped same counted q none none_yet empty = grind (arith, nat_tests, raising_first, true≢false, q.waiting, q.found)
 
 -- the sweep is put on the lowest level
 pub sweeping_starts : (p : Profile) (g : GraphShape) (x : List ℕ) (s : Sweeping) → IsFirst p g x s → IsSweeping p g x (record s { level = 0 })
@@ -71,8 +51,4 @@ sweeping_on p g x s k none le bare i = record {
 
 -- at the top no vertex breaks the upper invariant
 pub sweeping_last : (p : Profile) (g : GraphShape) (x : List ℕ) (s : Sweeping) → IsGraph g → top_level p g.vertices ≤ s.level → IsSweeping p g x s → IsRaised p g x s.levels
-sweeping_last p g x s graph end i = raising_done p g x s.levels i.placed.raising (λ v h. elim (i.awaited.found v h) [
-  | inl meets ↦ meets
-  | inr (inl rises) ↦ top_meets_upper p g s.levels v graph h (omega (arith, (i.rise.came v rises).1, end, i.placed.raising.capped v h))
-  | inr (inr waits) ↦ top_meets_upper p g s.levels v graph h (omega (arith, waits.0, end, i.placed.raising.capped v h))
-])
+sweeping_last p g x s graph end i = grind (arith, nat_tests, raising_done, top_meets_upper, i.placed.raising, i.awaited.found, i.rise.came, i.placed.raising.capped)

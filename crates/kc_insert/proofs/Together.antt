@@ -1,6 +1,6 @@
 -- The vertices that came to a level rise from it together, over several levels at once: they count each other on each of the levels,
 -- and no other vertex that they count, or that counts them, stands on the way.
-use Rattle.std.proofs.Common.{ℕ, suc, zero, ◌+◌, ◌-◌, ◌≤◌, ◌<◌, ◌≡◌, ◌⊎◌, inl, inr, true, false, leb, eqb, not, List, get_or, refl, ap, sym, ◌∙◌, arith, subst}
+use Rattle.std.proofs.Common.{ℕ, suc, zero, ◌+◌, ◌-◌, ◌≤◌, ◌<◌, ◌≡◌, inl, inr, true, false, eqb, not, List, get_or, refl, ap, sym, ◌∙◌, arith, subst}
 use Rattle.std.proofs.lemmas.Bool.{cases_lt, cases_Bool, true≢false}
 use Rattle.std.proofs.lemmas.Bool.Decides.{nat_tests}
 use Rattle.std.proofs.lemmas.Grind.{same_number_lists}
@@ -15,7 +15,7 @@ use Rattle.kc_levels.proofs.lemmas.Raising.{raising_many}
 use Rattle.kc_insert.specs.private.Rising.{all_at}
 use Rattle.kc_insert.specs.private.Sweeping.{AreAwaited, AreRising, IsFree, IsPaid, IsSweeping, Sweeping, together}
 use Rattle.kc_insert.proofs.Efforts.{effort_more}
-use Rattle.kc_insert.proofs.Flips.{count_agree}
+use Rattle.kc_insert.proofs.Tests.{count_agree, less_differs}
 use Rattle.kc_insert.proofs.Lifting.{length-all_at, all_at_here, all_at_other}
 use Rattle.kc_insert.proofs.Stepping.{rises_rose}
 
@@ -45,25 +45,7 @@ module _ (p : Profile) (g : GraphShape) (x : List ℕ) (s : Sweeping) (i : IsSwe
   -- each vertex has as many neighbours on its level or above as before
   pub same_together : (v : ℕ) → at_least g s.levels v (get_or s.levels v 0) ≡ at_least g (all_at s.levels s.rising k) v (get_or (all_at s.levels s.rising k) v 0)
   unfolding at_least
-  same_together v = count_agree (λ u. leb (get_or s.levels v 0) (get_or s.levels u 0)) (λ u. leb (get_or (all_at s.levels s.rising k) v 0) (get_or (all_at s.levels s.rising k) u 0)) (neighbours_of v g.edges) (λ u near. agree u near (cases_Bool (has_number v s.rising)) (cases_Bool (has_number u s.rising)))
-    where
-      agree : (u : ℕ) → has_number u (neighbours_of v g.edges) ≡ true → (has_number v s.rising ≡ true) ⊎ (has_number v s.rising ≡ false) → (has_number u s.rising ≡ true) ⊎ (has_number u s.rising ≡ false) → leb (get_or s.levels v 0) (get_or s.levels u 0) ≡ leb (get_or (all_at s.levels s.rising k) v 0) (get_or (all_at s.levels s.rising k) u 0)
-      agree u near (inl it) (inl that) = grind (arith, nat_tests, (i.rise.came v it).1, (i.rise.came u that).1, come_to v it, come_to u that)
-      agree u near (inl it) (inr none) = elim (cases_lt (get_or s.levels u 0) s.level) [
-        | inl lt ↦ grind (arith, nat_tests, (i.rise.came v it).1, come_to v it, kept u none, lt, le)
-        | inr ge ↦
-            let stood = i.placed.stood u ge none in
-            let far : k < get_or s.levels u 0 = omega (arith, stood, nobody_near v u it near (omega (arith, stood, ge))) in
-            grind (arith, nat_tests, (i.rise.came v it).1, come_to v it, kept u none, far, le)
-      ]
-      agree u near (inr none) (inl that) = elim (cases_lt (get_or s.levels v 0) s.level) [
-        | inl low ↦ grind (arith, nat_tests, (i.rise.came u that).1, come_to u that, kept v none, low, le)
-        | inr at ↦
-            let stood = i.placed.stood v at none in
-            let far : k < get_or s.levels v 0 = omega (arith, stood, nobody_near u v that (neighbours_both u v g.edges ∙ near) (omega (arith, stood, at))) in
-            grind (arith, nat_tests, (i.rise.came u that).1, come_to u that, kept v none, far, le)
-      ]
-      agree u near (inr none) (inr gone) = grind (arith, nat_tests, kept v none, kept u gone)
+  same_together v = grind (arith, nat_tests, count_agree, come_to, kept, nobody_near, neighbours_both)
 
   counted_together : (v : ℕ) → v < g.vertices → s.count v ≡ at_least g (all_at s.levels s.rising k) v (get_or (all_at s.levels s.rising k) v 0)
   counted_together v h = i.awaited.counted v h ∙ same_together v
@@ -73,14 +55,11 @@ module _ (p : Profile) (g : GraphShape) (x : List ℕ) (s : Sweeping) (i : IsSwe
     came = λ v there. let it = i.rise.came v there in (it.0, come_to v there, omega (arith, it.2, le));
     distinct = i.rise.distinct;
     moved = λ v. elim (cases_Bool (has_number v s.rising)) [
-      | inl there ↦ rises_rose p g x s i v there ∙ sym (differs (get_or x v 0) (get_or (all_at s.levels s.rising k) v 0) (omega (arith, (i.rise.came v there).2, le, come_to v there)))
+      | inl there ↦ rises_rose p g x s i v there ∙ sym (less_differs (get_or x v 0) (get_or (all_at s.levels s.rising k) v 0) (omega (arith, (i.rise.came v there).2, le, come_to v there)))
       | inr none ↦ i.rise.moved v ∙ ap (λ j. not (eqb (get_or x v 0) j)) (sym (kept v none))
     ];
     once = i.rise.once;
   }
-    where
-      differs : (a b : ℕ) → a < b → not (eqb a b) ≡ true
-      differs a b lt = grind (arith, nat_tests, lt)
 
   awaited_together : AreAwaited p g x (together s k)
   awaited_together = record {
@@ -105,10 +84,7 @@ module _ (p : Profile) (g : GraphShape) (x : List ℕ) (s : Sweeping) (i : IsSwe
 module _ (p : Profile) (g : GraphShape) (x : List ℕ) (s : Sweeping) (i : IsSweeping p g x s) (graph : IsGraph g) (over : (v : ℕ) → has_number v s.rising ≡ true → high p (group_of p g.vertices s.level) < s.count v) where
   -- the vertices that came to the level are there
   all_at_same : all_at s.levels s.rising s.level ≡ s.levels
-  all_at_same = same_number_lists (all_at s.levels s.rising s.level) s.levels (length-all_at s.levels s.rising s.level) (λ v h. elim (cases_Bool (has_number v s.rising)) [
-    | inl there ↦ all_at_here s.levels s.rising s.level v (omega (arith, i.placed.raising.sized, (i.rise.came v there).0)) there ∙ sym (i.rise.came v there).1
-    | inr none ↦ all_at_other s.levels s.rising s.level v none
-  ])
+  all_at_same = grind (arith, nat_tests, same_number_lists, length-all_at, all_at_here, all_at_other)
 
   raising_together : (k d : ℕ) → IsFree s.level k s.waits s.meets → s.level + d ≤ k → ((j : ℕ) → s.level ≤ j → j < k → group_of p g.vertices j ≡ group_of p g.vertices s.level) → IsRaising p g x (all_at s.levels s.rising (s.level + d))
   raising_together k zero free near same =

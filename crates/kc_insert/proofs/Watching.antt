@@ -8,7 +8,7 @@ use Rattle.kc_graph.specs.Numbers.{has_number}
 use Rattle.kc_graph.proofs.lemmas.Numbers.{has_number-push, has_number_at}
 use Rattle.kc_insert.specs.private.Telling.{times}
 use Rattle.kc_insert.specs.private.Watched.{count_at, is_few, StayWatched}
-use Rattle.kc_insert.specs.Ranges.{IsHeld, Watch}
+use Rattle.kc_insert.specs.Ranges.{HasVertex, Watch}
 use Rattle.kc_insert.proofs.Adding.{times_more, times_part}
 use Rattle.kc_insert.proofs.Buckets.{pushed_is, has_last}
 
@@ -35,14 +35,14 @@ watched_on a b c s t = record {
 }
 
 -- a vertex of the range has a place of its own
-pub held_place : (a : Watch) (v : ℕ) → IsHeld a v → v - a.first < length a.counts
+pub held_place : (a : Watch) (v : ℕ) → HasVertex a v → v - a.first < length a.counts
 held_place a v h = omega (arith, h.from, h.below)
 
 pub same_place : (first u v : ℕ) → first ≤ u → first ≤ v → u ≢ v → u - first ≢ v - first
 same_place first u v a b ne e = ne (omega (arith, a, b, e))
 
 -- v counts k from now on
-module _ (a b : Watch) (v k : ℕ) (held : IsHeld a v) (first : b.first ≡ a.first) (is : b.counts ≡ set a.counts (v - a.first) k) where
+module _ (a b : Watch) (v k : ℕ) (held : HasVertex a v) (first : b.first ≡ a.first) (is : b.counts ≡ set a.counts (v - a.first) k) where
   pub count_here : count_at b v ≡ k
   count_here = rw (is, first) (get_or-set_same a.counts (v - a.first) k 0 (held_place a v held))
 
@@ -69,33 +69,16 @@ module _ (a b : Watch) (v k : ℕ) (held : IsHeld a v) (first : b.first ≡ a.fi
     ];
   }
 
-  -- and that is few only if it was before
-  pub watched_kept : b.most ≡ a.most → b.doubtful ≡ a.doubtful → (k ≤ a.most → count_at a v ≤ a.most) → StayWatched a b
-  watched_kept most same few_then = record {
-    first = first;
-    sized = count_sized;
-    most = most;
-    still = λ u there. ap (has_number u) same ∙ there;
-    inside = λ u there. inl (sym (ap (has_number u) same) ∙ there);
-    fell = λ u from few. elim (cases_eq u v) [
-      | inl e ↦ inl (rw e (few_then (omega (arith, rw e at few, count_here))))
-      | inr ne ↦ inl (omega (arith, few, count_other u from ne))
-    ];
-  }
-
 -- each of the first i of the list counted one less
 pub record IsLess (a b : Watch) (xs : List ℕ) (i : ℕ) : Type 0 where
   pub watched : StayWatched a b
   pub less : (v : ℕ) → a.first ≤ v → count_at b v + times v (take i xs) ≡ count_at a v
 
-pub less_first : (a : Watch) (xs : List ℕ) → IsLess a a xs 0
-less_first a xs = record { watched = watched_same a; less = λ v from. omega arith }
-
-module _ (a b : Watch) (xs : List ℕ) (i : ℕ) (at : i < length xs) (held : (v : ℕ) → has_number v xs ≡ true → IsHeld a v) (enough : (v : ℕ) → times v xs ≤ count_at a v) (s : IsLess a b xs i) where
-  was : IsHeld a (get_or xs i 0)
+module _ (a b : Watch) (xs : List ℕ) (i : ℕ) (at : i < length xs) (held : (v : ℕ) → has_number v xs ≡ true → HasVertex a v) (enough : (v : ℕ) → times v xs ≤ count_at a v) (s : IsLess a b xs i) where
+  was : HasVertex a (get_or xs i 0)
   was = held (get_or xs i 0) (has_number_at (get_or xs i 0) xs i at refl)
 
-  pub less_held : IsHeld b (get_or xs i 0)
+  pub less_held : HasVertex b (get_or xs i 0)
   less_held = record { from = omega (arith, was.from, s.watched.first); below = omega (arith, was.below, s.watched.first, s.watched.sized) }
 
   one : times (get_or xs i 0) (take (i + 1) xs) ≡ times (get_or xs i 0) (take i xs) + 1

@@ -14,7 +14,7 @@ pub record Watch : Type 0 where
   pub doubtful : List ℕ
 
 -- v is one of the vertices
-pub record IsHeld (w : Watch) (v : ℕ) : Type 0 where
+pub record HasVertex (w : Watch) (v : ℕ) : Type 0 where
   pub from : w.first ≤ v
   pub below : v < w.first + length w.counts
 
@@ -65,12 +65,12 @@ counts_of r = flat_map (λ (p : Part). p.watch.counts) r.parts
 -- v is a vertex of its range
 pub record IsIn (r : Cut) (v : ℕ) : Type 0 where
   pub place : range_of r.bits v < length r.parts
-  pub held : IsHeld (part_of r v).watch v
+  pub held : HasVertex (part_of r v).watch v
 
 -- the ranges have n vertices, each in its own range, a list for each of `levels` levels, and lists to tell all ranges
 pub record IsCut (n levels : ℕ) (r : Cut) : Type 0 where
   pub vertex : (v : ℕ) → v < n → IsIn r v
-  pub own : (j v : ℕ) → j < length r.parts → IsHeld (part_at r j).watch v → (v < n) × (range_of r.bits v ≡ j)
+  pub own : (j v : ℕ) → j < length r.parts → HasVertex (part_at r j).watch v → (v < n) × (range_of r.bits v ≡ j)
   pub queues : (j : ℕ) → j < length r.parts → length (part_at r j).queue ≡ levels
   pub meetings : (j : ℕ) → j < length r.parts → length (part_at r j).meetings ≡ levels
   pub tells : (j : ℕ) → j < length r.parts → length (part_at r j).tell.lists ≡ length r.parts
@@ -98,4 +98,4 @@ pub record AreQuiet (p : Profile) (g : GraphShape) (r : Cut) : Type 0 where
   pub none : (all_began r ≡ []) × (all_risen r ≡ []) × ((k : ℕ) → meets r k ≡ [])
   pub begun : (j : ℕ) → j < length r.parts → (part_at r j).begun ≡ []
   pub steps : (j : ℕ) → j < length r.parts → (part_at r j).steps ≡ 0
-  pub inside : (j v : ℕ) → j < length r.parts → has_number v (part_at r j).watch.doubtful ≡ true → IsHeld (part_at r j).watch v
+  pub inside : (j v : ℕ) → j < length r.parts → has_number v (part_at r j).watch.doubtful ≡ true → HasVertex (part_at r j).watch v

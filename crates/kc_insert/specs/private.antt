@@ -6,7 +6,6 @@ pub mod Meetings
 pub mod Parts
 pub mod Ranges
 pub mod Rising
-pub mod Round
 pub mod Sharing
 pub mod Sweeping
 pub mod Telling

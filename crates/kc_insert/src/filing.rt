@@ -4,7 +4,7 @@ ghost use Rattle.std.specs.Prelude.{◌≡◌, ◌≢◌, ◌+◌, ◌<◌, ◌�
 ghost use Rattle.kc_levels.specs.LevelList.{IsCapped};
 ghost use Rattle.kc_levels.specs.Thresholds.{top_level};
 ghost use Rattle.kc_insert.specs.private.Filed.{AllFollowed, AreCopied, AreFiled, AreRowsCopied, HasFollowedAll, HasFollowedOne, HaveFollowed, IsRowCopied, MayFile, MayFollow, MayFollowOne};
-ghost use Rattle.kc_insert.specs.Ranges.{IsHeld, IsIn};
+ghost use Rattle.kc_insert.specs.Ranges.{HasVertex, IsIn};
 ghost use Rattle.kc_insert.specs.private.Ranges.{EachCan, EachDid};
 
 use crate::counted::Counted;
@@ -21,7 +21,7 @@ use std::marker::Model;
 use std::thread;
 use std::thread::Threads;
 
-// From one edge for each so many vertices on, all vertices are looked at and not the ends of the edges.
+// If there is an edge for every fourth vertex, a pass over all vertices replaces the look at each edge's ends.
 const LEAST_SHARE: usize = 4;
 
 /// What ranges follow when a phase begins. Contracts see it as a `Following`.
@@ -43,8 +43,8 @@ impl<'a> Model for Fresh<'a> {
     ghost view = { λ f. record { profile = f.th.now.profile; vertices = f.th.now.vertices; levels = f.levels.now; counts = f.counts.now } };
 }
 
-// v counts afresh, and waits on its level if it counted otherwise before and its group allows fewer. Fails only if
-// memory runs out.
+// Copies the count of v. If it changed and is over the band's limit, files v on its level. Fails only if memory runs
+// out.
 fn follow_count(
     fresh: &Fresh<'_>,
     v: u32,
@@ -67,14 +67,13 @@ fn follow_count(
     Ok(())
 }
 
-// Each vertex of the range counts afresh, and waits on its level if it counted otherwise before and its group allows
-// fewer. Fails only if memory runs out.
+// Gives each vertex of the range its fresh count, as `follow_count` does. Fails only if memory runs out.
 fn follow_counts(
     fresh: &Fresh<'_>,
     watched: &mut WatchedCounts,
     queue: &mut LevelLists<u32>,
 ) -> Result<(), AllocError>
-    requires inside { (v : ℕ) → IsHeld watched.old v → v < length fresh.now.counts }
+    requires inside { (v : ℕ) → HasVertex watched.old v → v < length fresh.now.counts }
     requires few { length fresh.now.counts ≤ 2 ^ 24 }
     requires levels { (length fresh.now.levels ≡ length fresh.now.counts) × (fresh.now.vertices ≡ length fresh.now.counts) × IsCapped fresh.now.profile fresh.now.vertices fresh.now.levels }
     requires room { top_level fresh.now.profile fresh.now.vertices < length queue.old }
@@ -89,7 +88,7 @@ fn follow_counts(
     Ok(())
 }
 
-// As `follow_count` says, for a vertex of one of the ranges.
+// Does what `follow_count` does, for a vertex of one of the ranges.
 fn file_end(fresh: &Fresh<'_>, ranges: &mut Ranges, v: u32) -> Result<(), AllocError>
     requires vertex { v < length fresh.now.counts }
     requires can { MayFile fresh.now ranges.old }
@@ -100,7 +99,7 @@ fn file_end(fresh: &Fresh<'_>, ranges: &mut Ranges, v: u32) -> Result<(), AllocE
     Ok(())
 }
 
-// As `file_end` says, for both ends of each edge.
+// Does what `file_end` does, for both ends of each edge.
 fn file_each_end(fresh: &Fresh<'_>, ranges: &mut Ranges, edges: &[Edge]) -> Result<(), AllocError>
     requires inside { All (λ e. e.1 < length fresh.now.counts) edges.now }
     requires can { MayFile fresh.now ranges.old }
@@ -114,7 +113,7 @@ fn file_each_end(fresh: &Fresh<'_>, ranges: &mut Ranges, edges: &[Edge]) -> Resu
 }
 
 impl Range {
-    // As `follow_counts` says. If memory runs out the range is marked.
+    // Does what `follow_counts` does. Marks the range if memory runs out.
     fn try_follow(&mut self, fresh: &Fresh<'_>)
         requires { MayFollow fresh.now self.old }
         ensures { self.new.is_short ≡ false → HasFollowedAll fresh.now self.old self.new }
@@ -125,7 +124,7 @@ impl Range {
     }
 }
 
-// In each range all vertices count afresh, as `Range::try_follow` says.
+// Gives all vertices their fresh counts, range by range (`Range::try_follow`).
 fn follow_each<R: Threads + Sync>(rt: &R, threads: usize, fresh: &Fresh<'_>, items: &mut [Range])
     requires threads { 0 < threads }
     requires ready { EachCan (λ _. MayFollow fresh.now) items.old }
@@ -142,7 +141,7 @@ fn follow_each<R: Threads + Sync>(rt: &R, threads: usize, fresh: &Fresh<'_>, ite
     );
 }
 
-// In each range all vertices count afresh. Fails only if memory runs out.
+// Gives all vertices their fresh counts, range by range. Fails only if memory runs out.
 fn follow_all<R: Threads + Sync>(
     rt: &R,
     threads: usize,
@@ -158,7 +157,7 @@ fn follow_all<R: Threads + Sync>(
     Ok(())
 }
 
-// All vertices count afresh, and each waits that counts otherwise than before and more than its group allows. Fails
+// Gives all vertices their fresh counts. Files each vertex whose count changed and is over the limit of its band. Fails
 // only if memory runs out.
 fn file_all<R: Threads + Sync>(
     rt: &R,
@@ -174,7 +173,7 @@ fn file_all<R: Threads + Sync>(
     Ok(())
 }
 
-/// Copies the fresh counts of the ends of the edges. An end whose count changed, and is more than its group allows, is
+/// Copies the fresh counts of the ends of the edges. An end whose count changed, and is more than its band allows, is
 /// filed once, by its level. If there is an edge for every fourth vertex or more, looks at all vertices, by threads if
 /// there are ranges. Fails only if memory runs out.
 pub fn file_ends<R: Threads + Sync, G: Gate + Sync>(
@@ -218,6 +217,7 @@ fn copy_row(ranges: &mut Ranges, fresh: Counted<'_>, v: u32)
     ensures { IsRowCopied fresh.entry v ranges.old ranges.new }
 {
     let counts = fresh.counts;
+    // Evidence for the check: the vertices of the graph are at most `MAX_VERTICES`.
     let _n = fresh.graph.vertices();
     ranges.set(v, counts[v as usize]);
     for w in fresh.graph.neighbours(v) {

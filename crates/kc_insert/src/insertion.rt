@@ -58,7 +58,7 @@ pub struct Tally {
 ///
 /// Takes memory for the vertices that wait or rose and for their moves. Besides it takes 8 bytes for each neighbour
 /// that stood above a rising vertex. On one level at a time it takes 8 for each neighbour that hears of a vertex;
-/// `work` keeps the longest of these lists. While 8,192 edges or more are linked, each takes 8 bytes, and 8 more while
+/// `work` keeps the longest of these lists. While 2,048 edges or more are linked, each takes 8 bytes, and 8 more while
 /// their halves are sorted. If 8,192 vertices or more rose, it takes what `LevelAdj::par_lift_all` takes.
 pub fn insert_phase<R: Threads + Sync, G: Gate + Sync, L: Ledger>(
     rounds: &Rounds<R, G>,
@@ -81,6 +81,7 @@ pub fn insert_phase<R: Threads + Sync, G: Gate + Sync, L: Ledger>(
     ensures cost { let rises = effort adj.new.graph adj.old.levels adj.new.levels adj.new.graph.vertices in
         OnOk result (steps.new ≤ steps.old + (4 * length added.now + rises)) }
 {
+    // Evidence for the check: each vertex has a level, and the top is below 65,535.
     let _levels = adj.levels();
     let _top = th.top();
     let sweep = &mut work.sweep;
@@ -126,6 +127,7 @@ pub fn insert_rounds<R: Threads + Sync, G: Gate + Sync, L: Ledger>(
     ensures cost { let rises = effort adj.new.graph adj.old.levels adj.new.levels adj.new.graph.vertices in
         OnOk result (steps.new ≤ steps.old + (4 * length added.now + rises)) }
 {
+    // Evidence for the check: the vertices of the graph are at most `MAX_VERTICES`.
     let _n = adj.graph().vertices();
     let mut work = InsertionWork::new(alloc, th, adj)?;
     let rounds = Rounds::new(rt, alloc, gate, workers);

@@ -32,17 +32,30 @@ pub struct Layout {
     ghost small: { bits ≤ 24 },
 }
 
+/// How the ranges share a pass.
+#[derive(Clone, Copy)]
+pub struct Sharing {
+    /// How the vertices are cut.
+    pub layout: Layout,
+    /// Whether the lists are dealt by range, so that each range hears its own.
+    pub is_dealt: bool,
+    /// How many threads share the pass.
+    pub threads: usize,
+    ghost some: { 0 < threads },
+}
+
 impl Layout {
     ghost use Rattle.kc_insert.specs.Ranges.{range_of};
 
-    /// Ranges of 2 ^ `bits` vertices, 0 to 24.
+    /// Makes ranges of 2 ^ `bits` vertices, 0 to 24.
     pub fn new(bits: u32, least_shared: usize) -> Self
         requires { bits ≤ 24 }
     {
         Layout { bits, least_shared }
     }
 
-    /// One range for fewer than 32,768 vertices; else 4 to 64 of at most 65,536 vertices, or of more from 4,194,304 on.
+    /// Makes one range of fewer than 32,768 vertices. Else makes 4 to 64, of at most 65,536 vertices each, or of more
+    /// from 4,194,304 on.
     pub fn of(n: u32) -> Self {
         let mut bits = 0;
         if n < LEAST_CUT {
@@ -57,7 +70,7 @@ impl Layout {
         Layout::new(bits, LEAST_SHARED)
     }
 
-    /// The number of ranges of n vertices.
+    /// Returns the number of ranges of n vertices.
     pub(crate) fn ranges(self, n: u32) -> usize
         ensures inside { (v : ℕ) → v < n → range_of self.bits v < result }
         ensures each { (j : ℕ) → j < result → j * 2 ^ self.bits < n }
@@ -69,14 +82,14 @@ impl Layout {
         }
     }
 
-    /// The range of v.
+    /// Returns the range of v.
     pub(crate) fn range_of(self, v: u32) -> usize
         ensures { result ≡ range_of self.bits v }
     {
         (v >> self.bits) as usize
     }
 
-    /// The first vertex of a range.
+    /// Returns the first vertex of a range.
     pub(crate) fn first_of(self, range: usize) -> u32
         requires { range * 2 ^ self.bits < 2 ^ 32 }
         ensures { result ≡ range * 2 ^ self.bits }
@@ -84,7 +97,7 @@ impl Layout {
         (range as u32) << self.bits
     }
 
-    /// The end of a range of n vertices: the vertex after its last one.
+    /// Returns the end of a range of n vertices: the vertex after its last one.
     pub(crate) fn end_of(self, range: usize, n: u32) -> u32
         requires some { range * 2 ^ self.bits < n }
         requires few { n ≤ 2 ^ 24 }
@@ -97,12 +110,12 @@ impl Layout {
         if next < n { next } else { n }
     }
 
-    /// Whether threads share a pass over `count` vertices.
+    /// Returns whether threads share a pass over `count` vertices.
     pub(crate) fn is_shared(self, count: usize) -> bool {
         count >= self.least_shared
     }
 
-    /// The number of threads that share a pass over `count` vertices, at most `workers`: one for each half of
+    /// Returns the number of threads that share a pass over `count` vertices, at most `workers`: one for each half of
     /// `least_shared`.
     pub(crate) fn threads(self, count: usize, workers: u32) -> usize
         requires { 1 ≤ workers }

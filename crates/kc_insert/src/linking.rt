@@ -2,37 +2,20 @@
 
 ghost use Rattle.std.specs.Prelude.{◌≡◌, ◌+◌, ◌*◌, ◌≤◌, OnOk, length};
 ghost use Rattle.kc_graph.specs.Shape.{EdgesFrom, with_edges};
-ghost use Rattle.kc_graph.specs.Changes.{AllAbsent, CanAdd};
+ghost use Rattle.kc_graph.specs.Changes.{AllAbsent};
 
 use kc_adj::{LevelAdj, Steps};
 use kc_graph::{Crew, Edge, MAX_EDGES};
 use kc_rounds::{Gate, Rounds};
-use std::alloc::{AllocError, Global};
+use std::alloc::AllocError;
 use std::sync::ledger::Ledger;
 use std::thread::Threads;
 
 // The least number of edges whose halves are worth a sort, so that the row of each vertex is gone through once.
-const LEAST_TOGETHER: usize = 8_192;
+const LEAST_TOGETHER: usize = 2_048;
 
-// Links the edges, one after another. Levels stay.
-fn link_each<L: Ledger>(
-    alloc: Global,
-    adj: &mut LevelAdj,
-    added: &[Edge],
-    steps: &mut Steps<L>,
-) -> Result<(), AllocError>
-    requires addable { CanAdd adj.old.graph added.now }
-    ensures value { OnOk result (adj.new ≡ record adj.old { graph = with_edges adj.old.graph added.now }) }
-    ensures cost { OnOk result (steps.new ≡ steps.old + 3 * length added.now) }
-{
-    for e in added {
-        adj.link(alloc, *e, steps)?;
-    }
-    Ok(())
-}
-
-/// Links the edges, which ascend, and many of them by the workers of `rounds`. Levels stay. Counts 3 steps for each
-/// edge.
+/// Links the edges, which ascend: one after another, or many of them by the workers of `rounds`. Levels stay. Counts 3
+/// steps for each edge.
 ///
 /// Fails only if memory runs out; the graph is then unspecified.
 pub fn link_edges<R: Threads + Sync, G: Gate + Sync, L: Ledger>(
@@ -48,7 +31,10 @@ pub fn link_edges<R: Threads + Sync, G: Gate + Sync, L: Ledger>(
     ensures cost { OnOk result (steps.new ≡ steps.old + 3 * length added.now) }
 {
     if added.len() < LEAST_TOGETHER {
-        link_each(rounds.alloc(), adj, added, steps)?;
+        for k in 0..added.len() {
+            let e = adj.graph().edge_with_prefetch(added, k);
+            adj.link(rounds.alloc(), e, steps)?;
+        }
         return Ok(());
     }
     let crew = Crew::new(rounds.runtime(), rounds.alloc(), rounds.workers());

@@ -4,16 +4,16 @@
 ghost use Rattle.std.specs.Prelude.{◌≡◌, ◌+◌, ◌*◌, ◌++◌, ◌∷◌, ◌<◌, ◌≤◌, ◌^◌, ℕ, [], false, true, IfOk, OnOk, cond, count_by, filter, length, slice_index, slice_index_or, slice_set, take};
 ghost use Rattle.std.specs.List.{flat_map};
 ghost use Rattle.kc_graph.specs.Numbers.{has_number};
-ghost use Rattle.kc_graph.specs.Shape.{has_edge};
+ghost use Rattle.kc_graph.specs.Shape.{has_edge, IsGraph};
 ghost use Rattle.kc_adj.specs.Degrees.{degrees};
 ghost use Rattle.kc_insert.specs.private.Crossing.{above_near, count_above, HaveBegun, HaveMeetings, is_above, left_at, met_by, next_near, rising_near, with_levels};
 ghost use Rattle.kc_insert.specs.private.Parts.{CanPart, CanRise, HasParted, HasRisen, HaveRisen, risen_part};
-ghost use Rattle.kc_insert.specs.private.Rising.{rises};
+ghost use Rattle.kc_insert.specs.private.Rising.{rises, seen};
 ghost use Rattle.kc_insert.specs.private.Telling.{AreDealtAnew, times};
-ghost use Rattle.kc_insert.specs.Ranges.{IsHeld};
+ghost use Rattle.kc_insert.specs.Ranges.{HasVertex};
 ghost use Rattle.kc_insert.specs.private.Watched.{count_at, StayWatched};
 
-use crate::layout::Layout;
+use crate::layout::Sharing;
 use crate::meetings::Meeting;
 use crate::range::Range;
 use crate::rising::{RISING, RisingLevels};
@@ -31,15 +31,10 @@ pub struct Step<'a> {
     pub graph: &'a Graph,
     /// The levels by now.
     pub levels: &'a RisingLevels,
-    /// How the vertices are cut.
-    pub layout: Layout,
     /// The level that the step is from.
     pub level: u16,
-    /// Whether the lists are dealt by range.
-    pub is_dealt: bool,
-    /// How many threads share a pass over the ranges.
-    pub threads: usize,
-    ghost some: { 0 < threads },
+    /// How the ranges share the pass.
+    pub sharing: Sharing,
 }
 
 impl<'a> Model for Step<'a> {
@@ -49,9 +44,26 @@ impl<'a> Model for Step<'a> {
 
     ghost Value = { Crossing };
 
-    ghost view = { λ s. record { graph = s.graph.now; levels = s.levels.now; bits = s.layout.bits; level = s.level; is_dealt = s.is_dealt } };
+    ghost view = { λ s. record { graph = s.graph.now; levels = s.levels.now; bits = s.sharing.layout.bits; level = s.level; is_dealt = s.sharing.is_dealt } };
 
-    ghost invariant = { λ s. IsCrossing (record { graph = s.graph.now; levels = s.levels.now; bits = s.layout.bits; level = s.level; is_dealt = s.is_dealt }) };
+    ghost invariant = { λ s. IsCrossing (record { graph = s.graph.now; levels = s.levels.now; bits = s.sharing.layout.bits; level = s.level; is_dealt = s.sharing.is_dealt }) };
+}
+
+impl<'a> Step<'a> {
+    /// Makes the step from the level.
+    pub fn new(graph: &'a Graph, levels: &'a RisingLevels, level: u16, sharing: Sharing) -> Step<'a>
+        requires graph { IsGraph graph.now }
+        requires sized { length (seen levels.now) ≡ graph.now.vertices }
+        requires small { level < 65534 }
+        ensures { result ≡ record { graph = graph.now; levels = levels.now; bits = sharing.layout.bits; level = level; is_dealt = sharing.is_dealt } }
+    {
+        Step {
+            graph,
+            levels,
+            level,
+            sharing,
+        }
+    }
 }
 
 // Puts w and x at `end`; returns `end + 2` if `holds`, else `end`. There is no branch, since a processor couldn't
@@ -68,7 +80,7 @@ fn put_both_where(items: &mut Vec<u32>, end: usize, w: u32, x: u32, holds: bool)
     end + 2 * usize::from(holds)
 }
 
-// The neighbours in the row that rise, at the front of `found`; returns how many.
+// Writes the neighbours in the row that rise at the front of `found`. Returns how many there are.
 fn rising_of(step: &Step<'_>, row: &[u32], found: &mut Vec<u32>) -> Result<usize, AllocError>
     requires { (w : ℕ) → has_number w row.now ≡ true → w < step.now.graph.vertices }
     ensures found { IfOk result (λ count. take count found.new.items ≡ filter (rises step.now.levels) row.now) }
@@ -85,8 +97,8 @@ fn rising_of(step: &Step<'_>, row: &[u32], found: &mut Vec<u32>) -> Result<usize
     Ok(end)
 }
 
-// The neighbours in the row that stand above the level and don't rise, each with its level, at the front of `found`.
-// Returns where they end, and how many neighbours are above the level or rise.
+// Writes the neighbours in the row that stand above the level and don't rise, each with its level, at the front of
+// `found`. Returns where they end, and how many neighbours are above the level or rise.
 fn above_of(step: &Step<'_>, row: &[u32], found: &mut Vec<u32>) -> Result<(usize, u32), AllocError>
     requires inside { (w : ℕ) → has_number w row.now ≡ true → w < step.now.graph.vertices }
     requires small { length row.now < 2 ^ 24 }
@@ -115,8 +127,8 @@ fn above_of(step: &Step<'_>, row: &[u32], found: &mut Vec<u32>) -> Result<(usize
     Ok((end, above))
 }
 
-// Each vertex that stays tells it to its neighbours that rise on. Returns how many neighbours there are. Fails only if
-// memory runs out.
+// Tells each rising neighbour of a vertex that stays. Returns how many neighbours there are. Fails only if memory runs
+// out.
 fn tell_parting(
     step: &Step<'_>,
     stay: &[u32],
@@ -131,7 +143,7 @@ fn tell_parting(
     let graph = step.graph;
     let mut steps = 0;
     for i in 0..stay.len() {
-        let v = graph.in_turn(stay, i);
+        let v = graph.vertex_with_prefetch(stay, i);
         let near = graph.neighbours(v);
         steps += near.len();
         let count = rising_of(step, near, row)?;
@@ -140,14 +152,14 @@ fn tell_parting(
     Ok(steps)
 }
 
-// For each meeting on the level: if the riser goes on and the other stays, the riser counts one less. Fails only if
-// memory runs out.
+// Lessens the count of the riser of each meeting on the level, if it goes on and the other stays. Fails only if memory
+// runs out.
 fn leave_behind(
     step: &Step<'_>,
     met: &[Meeting],
     watched: &mut WatchedCounts,
 ) -> Result<(), AllocError>
-    requires held { (v w : ℕ) → has_edge (v, w) met.now ≡ true → (v < step.now.graph.vertices) × (w < step.now.graph.vertices) × IsHeld watched.old v }
+    requires held { (v w : ℕ) → has_edge (v, w) met.now ≡ true → (v < step.now.graph.vertices) × (w < step.now.graph.vertices) × HasVertex watched.old v }
     requires enough { (v : ℕ) → times v (left_at step.now met.now) ≤ count_at watched.old v }
     ensures less { OnOk result ((v : ℕ) → watched.old.first ≤ v → count_at watched.new v + times v (left_at step.now met.now) ≡ count_at watched.old v) }
     ensures watched { OnOk result (StayWatched watched.old watched.new) }
@@ -162,7 +174,7 @@ fn leave_behind(
     Ok(())
 }
 
-// For each meeting on the next level: if the riser came up, it tells it to the other. Fails only if memory runs out.
+// Tells the other vertex of each meeting on the next level, if the riser came up. Fails only if memory runs out.
 fn come_up(step: &Step<'_>, meetings: &[Meeting], told: &mut Told) -> Result<(), AllocError>
     requires inside { (v w : ℕ) → has_edge (v, w) meetings.now ≡ true → v < step.now.graph.vertices }
     ensures { OnOk result (told.new ≡ record told.old { all = told.old.all ++ met_by step.now meetings.now }) }
@@ -176,8 +188,8 @@ fn come_up(step: &Step<'_>, meetings: &[Meeting], told: &mut Told) -> Result<(),
     Ok(())
 }
 
-// v begins to rise, and tells it to its neighbours on the next level. It is to meet all neighbours that stand above the
-// level and don't rise. These are in `above`, each with its level. Fails only if memory runs out.
+// Tells the neighbours of v on the next level that v begins to rise. Files a meeting with each neighbour that stands
+// above the level and doesn't rise. These are in `above`, each with its level. Fails only if memory runs out.
 fn file_above(
     step: &Step<'_>,
     v: u32,
@@ -204,11 +216,11 @@ fn file_above(
 }
 
 impl Range {
-    // Each vertex that begins to rise tells it to its neighbours on the next level. It is to meet all neighbours that
-    // stand above the level and don't rise, and counts afresh. Returns how many neighbours there are. Fails only if
-    // memory runs out.
+    // Tells the neighbours on the next level of each vertex that begins to rise. Files its meetings with the neighbours
+    // that stand above the level and don't rise (`file_above`), and counts its neighbours afresh. Returns how many
+    // neighbours there are. Fails only if memory runs out.
     fn begin_each(&mut self, step: &Step<'_>) -> Result<usize, AllocError>
-        requires vertices { (v : ℕ) → has_number v self.old.begun ≡ true → (v < step.now.graph.vertices) × IsHeld self.old.watch v }
+        requires vertices { (v : ℕ) → has_number v self.old.begun ≡ true → (v < step.now.graph.vertices) × HasVertex self.old.watch v }
         requires few { length self.old.begun ≤ 2 ^ 24 }
         requires places { (w : ℕ) → is_above step.now w ≡ true → slice_index step.now.levels.stored w < length self.old.meetings }
         ensures part { OnOk result (self.new ≡ record self.old { watch = self.new.watch; meetings = self.new.meetings; tell = self.new.tell }) }
@@ -220,7 +232,7 @@ impl Range {
         let graph = step.graph;
         let mut steps = 0;
         for i in 0..self.begun.len() {
-            let v = graph.in_turn(&self.begun, i);
+            let v = graph.vertex_with_prefetch(&self.begun, i);
             let near = graph.neighbours(v);
             steps += near.len();
             let (end, above) = above_of(step, near, &mut self.row)?;
@@ -236,7 +248,7 @@ impl Range {
         Ok(steps)
     }
 
-    /// Each vertex that stays tells it to its neighbours that rise on. Fails only if memory runs out.
+    /// Tells each rising neighbour of a vertex that stays. Fails only if memory runs out.
     pub fn part(&mut self, step: &Step<'_>) -> Result<(), AllocError>
         requires { CanPart step.now self.old }
         ensures part { OnOk result (self.new ≡ record self.old { tell = self.new.tell; steps = self.old.steps + degrees step.now.graph self.old.stay }) }
@@ -246,13 +258,13 @@ impl Range {
     {
         self.told.clear();
         self.steps += tell_parting(step, &self.stay, &mut self.row, &mut self.told)?;
-        if step.is_dealt {
-            self.told.deal(step.layout)?;
+        if step.sharing.is_dealt {
+            self.told.deal(step.sharing.layout)?;
         }
         Ok(())
     }
 
-    /// As `part`. If memory runs out the range is marked.
+    /// Does what `part` does. Marks the range if memory runs out.
     pub fn try_part(&mut self, step: &Step<'_>)
         requires { CanPart step.now self.old }
         ensures { self.new.is_short ≡ false → HasParted step.now self.old self.new }
@@ -262,8 +274,8 @@ impl Range {
         }
     }
 
-    /// Vertices that go on count the neighbours that stay no more, and vertices that begin count afresh. All of them
-    /// tell it to the neighbours that stood on the next level. Fails only if memory runs out.
+    /// Lessens the counts of vertices that go on by the neighbours that stay, and counts the neighbours of vertices
+    /// that begin. Tells the neighbours of both that stood on the next level. Fails only if memory runs out.
     pub fn rise(&mut self, alloc: Global, step: &Step<'_>) -> Result<(), AllocError>
         requires { CanRise step.now self.old }
         ensures part { OnOk result (self.new ≡ risen_part step.now self.old self.new) }
@@ -279,13 +291,13 @@ impl Range {
         self.steps += self.begin_each(step)?;
         self.risen.extend_from_slice(&self.begun)?;
         self.began.append(&mut self.begun)?;
-        if step.is_dealt {
-            self.told.deal(step.layout)?;
+        if step.sharing.is_dealt {
+            self.told.deal(step.sharing.layout)?;
         }
         Ok(())
     }
 
-    /// As `rise`. If memory runs out the range is marked.
+    /// Does what `rise` does. Marks the range if memory runs out.
     pub fn try_rise(&mut self, alloc: Global, step: &Step<'_>)
         requires { CanRise step.now self.old }
         ensures { self.new.is_short ≡ false → HasRisen step.now self.old self.new }

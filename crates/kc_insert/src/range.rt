@@ -7,7 +7,7 @@ ghost use Rattle.kc_insert.specs.private.Ranges.{forgotten, looked_anew, new_par
 ghost use Rattle.kc_insert.specs.private.Rising.{rises, seen};
 ghost use Rattle.kc_insert.specs.private.Telling.{heard_by, times};
 ghost use Rattle.kc_insert.specs.private.Watched.{count_at, StayWatched};
-ghost use Rattle.kc_insert.specs.Ranges.{IsHeld};
+ghost use Rattle.kc_insert.specs.Ranges.{HasVertex};
 
 use crate::meetings::Meeting;
 use crate::rising::RisingLevels;
@@ -53,15 +53,15 @@ impl Model for Range {
     ghost view = { λ r. record { watch = r.watched; queue = r.queue; meetings = r.meetings; began = r.began.items; risen = r.risen.items; stay = r.stay.items; begun = r.begun.items; tell = r.told; steps = r.steps; is_short = r.is_short } };
 }
 
-// Rising vertices on the watch list whose count is within the limit stop: `stay` has these alone afterwards. Fails only
-// if memory runs out.
-fn stop(
+// Stops the rising vertices on the watch list whose count is within the limit: `stay` has these alone afterwards. Fails
+// only if memory runs out.
+fn stop_watched(
     watched: &WatchedCounts,
     levels: &mut RisingLevels,
     stay: &mut Vec<u32>,
 ) -> Result<(), AllocError>
     requires small { levels.old.level < 65535 }
-    requires inside { (v : ℕ) → has_number v watched.now.doubtful ≡ true → (v < length (seen levels.old)) × IsHeld watched.now v }
+    requires inside { (v : ℕ) → has_number v watched.now.doubtful ≡ true → (v < length (seen levels.old)) × HasVertex watched.now v }
     ensures same { OnOk result ((levels.new.level ≡ levels.old.level) × (seen levels.new ≡ seen levels.old)) }
     ensures stay { OnOk result (LetStay levels.old watched.now levels.new stay.new.items) }
 {
@@ -70,17 +70,17 @@ fn stop(
     stay.clear();
     for v in doubtful {
         if levels.rises(*v) && watched.count(*v) <= most {
-            levels.settle(*v);
+            levels.stop(*v);
             stay.push(*v)?;
         }
     }
     Ok(())
 }
 
-// Each vertex that the ranges told to this one counts one less for each time. Fails only if memory runs out.
+// Lessens the count of each vertex that the ranges told to this one, once for each time. Fails only if memory runs out.
 fn hear_each(watched: &mut WatchedCounts, told: &[Told], own: usize) -> Result<(), AllocError>
     requires lists { All (λ t. own < length t.lists) told.now }
-    requires held { (v : ℕ) → has_number v (heard_by own told.now) ≡ true → IsHeld watched.old v }
+    requires held { (v : ℕ) → has_number v (heard_by own told.now) ≡ true → HasVertex watched.old v }
     requires enough { (v : ℕ) → times v (heard_by own told.now) ≤ count_at watched.old v }
     ensures less { OnOk result ((v : ℕ) → watched.old.first ≤ v → count_at watched.new v + times v (heard_by own told.now) ≡ count_at watched.old v) }
     ensures watched { OnOk result (StayWatched watched.old watched.new) }
@@ -91,7 +91,8 @@ fn hear_each(watched: &mut WatchedCounts, told: &[Told], own: usize) -> Result<(
     Ok(())
 }
 
-// The vertices of the list that rise, in order: `rising` has these alone afterwards. Fails only if memory runs out.
+// Lists the vertices of `began` that rise, in order: `rising` has these alone afterwards. Fails only if memory runs
+// out.
 fn who_rises(levels: &RisingLevels, began: &[u32], rising: &mut Vec<u32>) -> Result<(), AllocError>
     requires inside { (v : ℕ) → has_number v began.now ≡ true → v < length (seen levels.now) }
     ensures { OnOk result (rising.new.items ≡ filter (rises levels.now) began.now) }
@@ -120,7 +121,8 @@ fn keep_rising(
 }
 
 impl Range {
-    /// The vertices from `first` on, with these counts; none rises or waits. Fails only if memory runs out.
+    /// Makes a range of the vertices from `first` on, with these counts; none rises or waits. Fails only if memory runs
+    /// out.
     pub fn new(
         alloc: Global,
         first: u32,
@@ -150,20 +152,20 @@ impl Range {
     /// has these alone afterwards, and the watch list is empty. Fails only if memory runs out.
     pub fn let_stay(&mut self, levels: &mut RisingLevels) -> Result<(), AllocError>
         requires small { levels.old.level < 65535 }
-        requires inside { (v : ℕ) → has_number v self.old.watch.doubtful ≡ true → (v < length (seen levels.old)) × IsHeld self.old.watch v }
+        requires inside { (v : ℕ) → has_number v self.old.watch.doubtful ≡ true → (v < length (seen levels.old)) × HasVertex self.old.watch v }
         ensures same { OnOk result ((levels.new.level ≡ levels.old.level) × (seen levels.new ≡ seen levels.old)) }
         ensures part { OnOk result (self.new ≡ record self.old { watch = record self.old.watch { doubtful = [] }; stay = self.new.stay }) }
         ensures stay { OnOk result (LetStay levels.old self.old.watch levels.new self.new.stay) }
     {
-        stop(&self.watched, levels, &mut self.stay)?;
+        stop_watched(&self.watched, levels, &mut self.stay)?;
         self.watched.clear();
         Ok(())
     }
 
-    /// From now on the limit is `most`: looks anew at all that rise, and forgets those that began and stay since. Fails
+    /// Makes `most` the limit: looks anew at all rising vertices, and forgets vertices that began and stay since. Fails
     /// only if memory runs out.
     pub fn look_anew(&mut self, levels: &RisingLevels, most: u32) -> Result<(), AllocError>
-        requires { (v : ℕ) → has_number v self.old.began ≡ true → (v < length (seen levels.now)) × IsHeld self.old.watch v }
+        requires { (v : ℕ) → has_number v self.old.began ≡ true → (v < length (seen levels.now)) × HasVertex self.old.watch v }
         ensures { OnOk result (self.new ≡ looked_anew levels.now most self.old self.new.stay) }
     {
         keep_rising(levels, &mut self.began, &mut self.stay)?;
@@ -171,9 +173,9 @@ impl Range {
         Ok(())
     }
 
-    /// v counts one more, and waits on the level if it then counts one more than `most`. Fails only if memory runs out.
+    /// Adds one to the count of v, which waits on the level if its count was `most`. Fails only if memory runs out.
     pub fn meet(&mut self, level: u16, most: u32, v: u32) -> Result<(), AllocError>
-        requires vertex { IsHeld self.old.watch v }
+        requires vertex { HasVertex self.old.watch v }
         requires small { count_at self.old.watch v < 2 ^ 31 }
         requires room { level < length self.old.queue }
         ensures { OnOk result (self.new ≡ part_met level most v self.old) }
@@ -186,10 +188,10 @@ impl Range {
         Ok(())
     }
 
-    /// Each vertex of the list, all on the level, counts one more for each time that it is there. It waits on the level
-    /// if it then counts more than `most`. Fails only if memory runs out.
+    /// Adds one to the count of each vertex of the list, all on the level, for each time that it is there. It waits on
+    /// the level if it then counts more than `most`. Fails only if memory runs out.
     pub fn meet_all(&mut self, level: u16, most: u32, vertices: &[u32]) -> Result<(), AllocError>
-        requires held { (v : ℕ) → has_number v vertices.now ≡ true → IsHeld self.old.watch v }
+        requires held { (v : ℕ) → has_number v vertices.now ≡ true → HasVertex self.old.watch v }
         requires small { (v : ℕ) → count_at self.old.watch v + times v vertices.now ≤ 2 ^ 31 }
         requires room { level < length self.old.queue }
         ensures { OnOk result (HaveMet level most vertices.now self.old self.new) }
@@ -200,7 +202,8 @@ impl Range {
         Ok(())
     }
 
-    /// Each vertex that the ranges told to this one counts one less for each time. Fails only if memory runs out.
+    /// Lessens the count of each vertex that the ranges told to this one, once for each time. Fails only if memory runs
+    /// out.
     pub fn hear_less(&mut self, told: &[Told], own: usize) -> Result<(), AllocError>
         requires { CanHearLess told.now own self.old }
         ensures { OnOk result (HasHeardLess (heard_by own told.now) self.old self.new) }
@@ -208,7 +211,7 @@ impl Range {
         hear_each(&mut self.watched, told, own)
     }
 
-    /// As `hear_less`. If memory runs out the range is marked.
+    /// Does what `hear_less` does. Marks the range if memory runs out.
     pub fn try_hear_less(&mut self, told: &[Told], own: usize)
         requires { CanHearLess told.now own self.old }
         ensures { self.new.is_short ≡ false → HasHeardLess (heard_by own told.now) self.old self.new }
@@ -218,8 +221,8 @@ impl Range {
         }
     }
 
-    /// Each vertex that the ranges told to this one, all on the level, counts one more for each time. It waits there if
-    /// it then counts more than `most`. Fails only if memory runs out.
+    /// Adds one to the count of each vertex that the ranges told to this one, all on the level, for each time. It waits
+    /// there if it then counts more than `most`. Fails only if memory runs out.
     pub fn hear_more(
         &mut self,
         told: &[Told],
@@ -236,7 +239,7 @@ impl Range {
         Ok(())
     }
 
-    /// As `hear_more`. If memory runs out the range is marked.
+    /// Does what `hear_more` does. Marks the range if memory runs out.
     pub fn try_hear_more(&mut self, told: &[Told], own: usize, level: u16, most: u32)
         requires { CanHearMore told.now own level self.old }
         ensures { self.new.is_short ≡ false → HaveMet level most (heard_by own told.now) self.old self.new }

@@ -4,11 +4,11 @@ ghost use Rattle.std.specs.Prelude.{◌≡◌, ◌+◌, ◌-◌, ◌*◌, ◌++�
 ghost use Rattle.std.specs.List.{flat_map};
 ghost use Rattle.kc_graph.specs.Numbers.{has_number};
 ghost use Rattle.kc_insert.specs.private.Ranges.{all_begun, all_stay, AllLetStay, AreNew, AreToldAll, CanLetStay, CanLiftOff, CanLookAnew, count_of, Forgot, forgotten, HaveNoSteps, LiftedOff, LookedAnew, LooksAnew, TookWaiting, with_count};
-ghost use Rattle.kc_insert.specs.Ranges.{all_began, all_risen, IsHeld, IsIn, meets, waits};
+ghost use Rattle.kc_insert.specs.Ranges.{all_began, all_risen, HasVertex, IsIn, meets, waits};
 ghost use Rattle.kc_insert.specs.private.Rising.{seen};
 ghost use Rattle.kc_insert.specs.private.Sharing.{AllParted, AllRisen, CanPartAll, CanRiseAll};
 
-use crate::layout::Layout;
+use crate::layout::{Layout, Sharing};
 use crate::passes::Step;
 use crate::range::Range;
 use crate::rising::RisingLevels;
@@ -38,7 +38,7 @@ impl Model for Ranges {
     ghost view = { λ r. record { bits = r.layout.bits; parts = r.items.items; told = r.told.items } };
 }
 
-// The steps of all ranges, which have none afterwards.
+// Returns the steps of all ranges, which have none afterwards.
 fn steps_of(items: &mut [Range]) -> usize
     requires { sum_by (λ p. p.steps) items.old < 2 ^ 64 }
     ensures steps { result ≡ sum_by (λ p. p.steps) items.old }
@@ -53,7 +53,7 @@ fn steps_of(items: &mut [Range]) -> usize
     steps
 }
 
-// Each range forgets the phase.
+// Lets each range forget the phase.
 fn forget_each(alloc: Global, items: &mut [Range])
     ensures { (j : ℕ) (d : _) → j < length items.old → slice_index_or items.new j d ≡ forgotten (slice_index_or items.old j d) }
 {
@@ -90,8 +90,8 @@ fn take_each(alloc: Global, level: u16, items: &mut [Range]) -> Result<Vec<u32>,
     Ok(all)
 }
 
-// In each range rising vertices on the watch list whose count is within the limit stop. Returns how many. Fails only if
-// memory runs out.
+// Stops the rising vertices on the watch list of each range whose count is within the limit. Returns how many stop.
+// Fails only if memory runs out.
 fn stop_each(levels: &mut RisingLevels, items: &mut [Range]) -> Result<usize, AllocError>
     requires { CanLetStay levels.old items.old }
     ensures stop { OnOk result (AllLetStay levels.old levels.new items.old items.new) }
@@ -106,7 +106,7 @@ fn stop_each(levels: &mut RisingLevels, items: &mut [Range]) -> Result<usize, Al
     Ok(count)
 }
 
-// The vertices begin to rise, each in its range. Returns how many there are. Fails only if memory runs out.
+// Begins to raise the vertices, each in its range. Returns how many there are. Fails only if memory runs out.
 fn lift_each(
     levels: &mut RisingLevels,
     level: u16,
@@ -130,9 +130,9 @@ fn lift_each(
     Ok(count)
 }
 
-// Looks anew at all that rise in the range if it had another limit. Fails only if memory runs out.
+// Looks anew at all rising vertices of the range if it had another limit. Fails only if memory runs out.
 fn look_at(levels: &RisingLevels, most: u32, range: &mut Range) -> Result<(), AllocError>
-    requires { (v : ℕ) → has_number v range.old.began ≡ true → (v < length (seen levels.now)) × IsHeld range.old.watch v }
+    requires { (v : ℕ) → has_number v range.old.began ≡ true → (v < length (seen levels.now)) × HasVertex range.old.watch v }
     ensures { OnOk result (LooksAnew levels.now most range.old range.new) }
 {
     if most != range.watched.most() {
@@ -141,7 +141,7 @@ fn look_at(levels: &RisingLevels, most: u32, range: &mut Range) -> Result<(), Al
     Ok(())
 }
 
-// Looks anew at all that rise in each range that had another limit. Fails only if memory runs out.
+// Looks anew at all rising vertices of each range that had another limit. Fails only if memory runs out.
 fn look_each(levels: &RisingLevels, most: u32, items: &mut [Range]) -> Result<(), AllocError>
     requires { CanLookAnew levels.now items.old }
     ensures { OnOk result (LookedAnew levels.now most items.old items.new) }
@@ -154,7 +154,7 @@ fn look_each(levels: &RisingLevels, most: u32, items: &mut [Range]) -> Result<()
 }
 
 impl Ranges {
-    /// The vertices with these counts, of which none rises or waits. Fails only if memory runs out.
+    /// Makes the ranges of the vertices with these counts, of which none rises or waits. Fails only if memory runs out.
     pub fn new(
         alloc: Global,
         layout: Layout,
@@ -182,7 +182,7 @@ impl Ranges {
         })
     }
 
-    /// How many neighbours v counts.
+    /// Returns how many neighbours v counts.
     pub fn count(&self, v: u32) -> u32
         requires { IsIn self.now v }
         ensures { result ≡ count_of self.now v }
@@ -191,7 +191,7 @@ impl Ranges {
         range.watched.count(v)
     }
 
-    /// v counts `count`.
+    /// Sets the count of v.
     pub fn set(&mut self, v: u32, count: u32)
         requires { IsIn self.old v }
         ensures { self.new ≡ with_count self.old v count }
@@ -200,7 +200,7 @@ impl Ranges {
         range.watched.set(v, count);
     }
 
-    /// The first level from this one on where a vertex waits, or the number of levels.
+    /// Returns the first level from this one on where a vertex waits, or the number of levels.
     pub fn next_waiting(&self, from: u16) -> u16
         requires { All (λ p. from ≤ length p.queue) self.now.parts }
         ensures from { from ≤ result }
@@ -218,7 +218,7 @@ impl Ranges {
         next
     }
 
-    /// The first level from this one on where a vertex is to be met, or the number of levels.
+    /// Returns the first level from this one on where a vertex is to be met, or the number of levels.
     pub fn next_meeting(&self, from: u16) -> u16
         requires { All (λ p. from ≤ length p.meetings) self.now.parts }
         ensures from { from ≤ result }
@@ -236,7 +236,7 @@ impl Ranges {
         next
     }
 
-    /// Whether a vertex began to rise and is still kept.
+    /// Returns whether a vertex began to rise and is still kept.
     pub fn has_begun(&self) -> bool
         ensures { result ≡ false → all_began self.now ≡ [] }
     {
@@ -249,7 +249,7 @@ impl Ranges {
         false
     }
 
-    /// Whether a vertex is on a watch list.
+    /// Returns whether a vertex is on a watch list.
     pub fn has_doubt(&self) -> bool
         ensures { result ≡ false → All (λ p. p.watch.doubtful ≡ []) self.now.parts }
     {
@@ -272,7 +272,7 @@ impl Ranges {
         take_each(alloc, level, &mut self.items)
     }
 
-    /// Rising vertices on a watch list whose count is within the limit stop here. Returns how many. Fails only if
+    /// Stops the rising vertices on a watch list whose count is within the limit. Returns how many stop. Fails only if
     /// memory runs out.
     pub fn let_stay(&mut self, levels: &mut RisingLevels) -> Result<usize, AllocError>
         requires { CanLetStay levels.old self.old.parts }
@@ -283,7 +283,7 @@ impl Ranges {
         stop_each(levels, &mut self.items)
     }
 
-    /// The vertices, all of which were on the level before, begin to rise. Returns how many there are. Fails only if
+    /// Begins to raise the vertices, all of which were on the level before. Returns how many there are. Fails only if
     /// memory runs out.
     pub fn lift_off(
         &mut self,
@@ -299,7 +299,7 @@ impl Ranges {
         lift_each(levels, level, vertices, self.layout, &mut self.items)
     }
 
-    /// The number of meetings on a level.
+    /// Returns the number of meetings on a level.
     pub fn meeting_count(&self, level: u16) -> usize
         requires { All (λ p. level < length p.meetings) self.now.parts }
     {
@@ -311,8 +311,8 @@ impl Ranges {
         count
     }
 
-    /// From now on the limit is `most`: each range that had another looks anew at all that rise. Fails only if memory
-    /// runs out.
+    /// Makes `most` the limit: each range that had another looks anew at all rising vertices. Fails only if memory runs
+    /// out.
     pub fn look_anew(&mut self, levels: &RisingLevels, most: u32) -> Result<(), AllocError>
         requires { CanLookAnew levels.now self.old.parts }
         ensures looked { OnOk result (LookedAnew levels.now most self.old.parts self.new.parts) }
@@ -321,7 +321,7 @@ impl Ranges {
         look_each(levels, most, &mut self.items)
     }
 
-    /// All that rose, range by range. Fails only if memory runs out.
+    /// Lists all vertices that rose, range by range. Fails only if memory runs out.
     pub fn risen(&self, alloc: Global) -> Result<Vec<u32>, AllocError>
         ensures { IfOk result (λ r. r.items ≡ all_risen self.now) }
     {
@@ -340,13 +340,21 @@ impl Ranges {
         forget_each(alloc, &mut self.items);
     }
 
-    /// Whether the lists of a pass over `count` vertices are dealt by range, and each range hears its own.
-    pub fn is_dealt(&self, count: usize) -> bool {
-        self.items.len() > 1 && self.layout.is_shared(count)
+    /// Returns how at most `workers` threads share a pass over `count` vertices.
+    pub fn sharing(&self, count: usize, workers: u32) -> Sharing
+        requires { 1 ≤ workers }
+        ensures { result.layout.bits ≡ self.now.bits }
+    {
+        let layout = self.layout;
+        Sharing {
+            layout,
+            is_dealt: self.items.len() > 1 && layout.is_shared(count),
+            threads: layout.threads(count, workers),
+        }
     }
 
-    /// The vertices that stay on the level, `count` in all, are counted no more by those that rise on. Fails only if
-    /// memory runs out.
+    /// Lessens the counts of rising vertices by their neighbours that stay on the level, `count` vertices in all. Fails
+    /// only if memory runs out.
     pub fn part<R: Threads + Sync, G: Gate + Sync>(
         &mut self,
         rounds: &Rounds<R, G>,
@@ -366,8 +374,8 @@ impl Ranges {
         Ok(())
     }
 
-    /// The vertices that begin, and those that came up, meet the neighbours that stood on the next level. Fails only if
-    /// memory runs out.
+    /// Lets the vertices that begin, and those that came up, meet the neighbours that stood on the next level. Fails
+    /// only if memory runs out.
     pub fn rise<R: Threads + Sync, G: Gate + Sync>(
         &mut self,
         rounds: &Rounds<R, G>,
@@ -389,7 +397,7 @@ impl Ranges {
         Ok(())
     }
 
-    /// The steps that the passes took since they were last counted.
+    /// Returns the steps that the passes took since they were last counted.
     pub fn take_steps(&mut self) -> usize
         requires { sum_by (λ p. p.steps) self.old.parts < 2 ^ 64 }
         ensures steps { result ≡ sum_by (λ p. p.steps) self.old.parts }

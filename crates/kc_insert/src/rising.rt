@@ -19,7 +19,7 @@ pub struct RisingLevels {
 }
 
 impl RisingLevels {
-    /// The level of v.
+    /// Returns the level of v.
     pub fn get(&self, v: u32) -> u16
         requires { v < length (seen self.now) }
         ensures { result ≡ slice_index (seen self.now) v }
@@ -28,7 +28,7 @@ impl RisingLevels {
         if level == RISING { self.level } else { level }
     }
 
-    /// Whether v rises.
+    /// Returns whether v rises.
     pub fn rises(&self, v: u32) -> bool
         requires { v < length (seen self.now) }
         ensures { result ≡ rises self.now v }
@@ -36,7 +36,7 @@ impl RisingLevels {
         self.stored.get(v) == RISING
     }
 
-    /// v rises from now on, and is on the level of the sweep.
+    /// Begins to raise v, which is on the level of the sweep from now on.
     pub fn begin(&mut self, v: u32)
         requires { v < length (seen self.old) }
         ensures level { self.new.level ≡ self.old.level }
@@ -46,8 +46,8 @@ impl RisingLevels {
         self.stored.set(v, RISING);
     }
 
-    /// v rises no more, and stays on the level of the sweep.
-    pub fn settle(&mut self, v: u32)
+    /// Stops v, which stays on the level of the sweep.
+    pub fn stop(&mut self, v: u32)
         requires small { self.old.level < 65535 }
         requires rises { rises self.old v ≡ true }
         ensures level { self.new.level ≡ self.old.level }
@@ -58,7 +58,7 @@ impl RisingLevels {
         self.stored.set(v, level);
     }
 
-    /// The sweep goes to the level, and all rising vertices are on it.
+    /// Takes the sweep, and with it all rising vertices, to the level.
     pub fn go_to(&mut self, level: u16)
         ensures level { self.new.level ≡ level }
         ensures seen { (risers : List ℕ) → ((v : ℕ) → rises self.old v ≡ has_number v risers) → seen self.new ≡ all_at (seen self.old) risers level }

@@ -10,7 +10,7 @@ use kc_levels::Thresholds;
 pub struct Scaled<'a> {
     /// The graph.
     pub graph: &'a Graph,
-    /// How many neighbours each group of levels allows.
+    /// How many neighbours each band of levels allows.
     pub th: &'a Thresholds,
     ghost scale: { th.now.vertices ≡ graph.now.vertices },
 }

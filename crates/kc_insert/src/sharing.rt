@@ -26,7 +26,7 @@ pub fn check(items: &[Range]) -> Result<(), AllocError>
     Ok(())
 }
 
-/// In each range the vertices that stay tell it to their neighbours that rise on.
+/// Runs `Range::part` for each range.
 pub fn part_each<R: Threads + Sync>(rt: &R, step: &Step<'_>, items: &mut [Range])
     requires { EachCan (λ _. CanPart step.now) items.old }
     ensures { EachDid (λ _. HasParted step.now) items.old items.new }
@@ -34,7 +34,7 @@ pub fn part_each<R: Threads + Sync>(rt: &R, step: &Step<'_>, items: &mut [Range]
     thread::for_each_mut(
         rt,
         items,
-        step.threads,
+        step.sharing.threads,
         &|_: usize, range: &mut Range|
             requires { CanPart step.now range.old }
             ensures { range.new.is_short ≡ false → HasParted step.entry.now range.old range.new }
@@ -42,7 +42,7 @@ pub fn part_each<R: Threads + Sync>(rt: &R, step: &Step<'_>, items: &mut [Range]
     );
 }
 
-/// In each range vertices go on or begin, and tell it to the neighbours that stood on the next level.
+/// Runs `Range::rise` for each range.
 pub fn rise_each<R: Threads + Sync>(rt: &R, alloc: Global, step: &Step<'_>, items: &mut [Range])
     requires { EachCan (λ _. CanRise step.now) items.old }
     ensures { EachDid (λ _. HasRisen step.now) items.old items.new }
@@ -50,7 +50,7 @@ pub fn rise_each<R: Threads + Sync>(rt: &R, alloc: Global, step: &Step<'_>, item
     thread::for_each_mut(
         rt,
         items,
-        step.threads,
+        step.sharing.threads,
         &|_: usize, range: &mut Range|
             requires { CanRise step.now range.old }
             ensures { range.new.is_short ≡ false → HasRisen step.entry.now range.old range.new }
@@ -58,7 +58,7 @@ pub fn rise_each<R: Threads + Sync>(rt: &R, alloc: Global, step: &Step<'_>, item
     );
 }
 
-/// Each range hears its lists: the vertices on them count one less.
+/// Runs `Range::hear_less` for each range: the vertices on its lists count one less.
 pub fn hear_less_each<R: Threads + Sync>(
     rt: &R,
     step: &Step<'_>,
@@ -71,7 +71,7 @@ pub fn hear_less_each<R: Threads + Sync>(
     thread::for_each_mut(
         rt,
         items,
-        step.threads,
+        step.sharing.threads,
         &|own: usize, range: &mut Range|
             requires { CanHearLess told.now own range.old }
             ensures { range.new.is_short ≡ false → HasHeardLess (heard_by own told.entry.now) range.old range.new }
@@ -79,8 +79,8 @@ pub fn hear_less_each<R: Threads + Sync>(
     );
 }
 
-/// Each range hears its lists: the vertices on them, all on the next level, count one more. They wait there if they
-/// then count more than `most`.
+/// Runs `Range::hear_more` for each range: the vertices on its lists, all on the next level, count one more. They wait
+/// there if they then count more than `most`.
 pub fn hear_more_each<R: Threads + Sync>(
     rt: &R,
     step: &Step<'_>,
@@ -95,7 +95,7 @@ pub fn hear_more_each<R: Threads + Sync>(
     thread::for_each_mut(
         rt,
         items,
-        step.threads,
+        step.sharing.threads,
         &|own: usize, range: &mut Range|
             requires { CanHearMore told.now own level range.old }
             ensures { range.new.is_short ≡ false → HaveMet level most (heard_by own told.entry.now) range.old range.new }
@@ -103,7 +103,7 @@ pub fn hear_more_each<R: Threads + Sync>(
     );
 }
 
-/// What each range told is put into the list of its place, where all ranges can hear it.
+/// Puts what each range told into the list of its place, where all ranges can hear it.
 pub fn collect(items: &mut [Range], told: &mut [Told])
     requires { length told.old ≡ length items.old }
     ensures items { (i : ℕ) (d e : _) → i < length items.old → slice_index_or items.new i d ≡ record (slice_index_or items.old i d) { tell = slice_index_or told.old i e } }
@@ -115,7 +115,7 @@ pub fn collect(items: &mut [Range], told: &mut [Told])
     }
 }
 
-/// Each vertex of the list counts one less for each time that it is there. Fails only if memory runs out.
+/// Lessens the count of each vertex of the list, once for each time that it is there. Fails only if memory runs out.
 pub fn hear_less_all(layout: Layout, told: &[u32], items: &mut [Range]) -> Result<(), AllocError>
     requires { CanLessen layout.bits told.now items.old }
     ensures { OnOk result (HearLess layout.bits told.now items.old items.new) }
@@ -127,8 +127,8 @@ pub fn hear_less_all(layout: Layout, told: &[u32], items: &mut [Range]) -> Resul
     Ok(())
 }
 
-/// Each vertex of the list, all on the level, counts one more for each time that it is there. It waits on the level if
-/// it then counts more than `most`. Fails only if memory runs out.
+/// Adds one to the count of each vertex of the list, all on the level, for each time that it is there. It waits on the
+/// level if it then counts more than `most`. Fails only if memory runs out.
 pub fn hear_more_all(
     layout: Layout,
     level: u16,
@@ -146,8 +146,8 @@ pub fn hear_more_all(
     Ok(())
 }
 
-/// The vertices on the lists count one less for each time. If the lists are dealt, each range hears its own; else the
-/// caller hears one list after another. Fails only if memory runs out.
+/// Lessens the counts of the vertices on the lists, once for each time. If the lists are dealt, each range hears its
+/// own; else the caller hears one list after another. Fails only if memory runs out.
 pub fn hear_less<R: Threads + Sync>(
     rt: &R,
     step: &Step<'_>,
@@ -158,8 +158,8 @@ pub fn hear_less<R: Threads + Sync>(
     requires ready { CanLessen step.now.bits (told_all told.now) items.old }
     ensures { OnOk result (HearLess step.now.bits (told_all told.now) items.old items.new) }
 {
-    let layout = step.layout;
-    if step.is_dealt {
+    let layout = step.sharing.layout;
+    if step.sharing.is_dealt {
         hear_less_each(rt, step, told, items);
         check(items)?;
         return Ok(());
@@ -170,8 +170,8 @@ pub fn hear_less<R: Threads + Sync>(
     Ok(())
 }
 
-/// The vertices on the lists, all on the level, count one more for each time. They wait on the level if they then count
-/// more than `most`. The lists are heard as in `hear_less`. Fails only if memory runs out.
+/// Adds one to the counts of the vertices on the lists, all on the level, for each time. They wait on the level if they
+/// then count more than `most`. The lists are heard as in `hear_less`. Fails only if memory runs out.
 pub fn hear_more<R: Threads + Sync>(
     rt: &R,
     step: &Step<'_>,
@@ -184,9 +184,9 @@ pub fn hear_more<R: Threads + Sync>(
     requires few { AreFew items.old }
     ensures { OnOk result (HearMore step.now.bits (step.now.level + 1) most (told_all told.now) items.old items.new) }
 {
-    let layout = step.layout;
+    let layout = step.sharing.layout;
     let next = step.level + 1;
-    if step.is_dealt {
+    if step.sharing.is_dealt {
         hear_more_each(rt, step, most, told, items);
         check(items)?;
         return Ok(());
@@ -197,7 +197,7 @@ pub fn hear_more<R: Threads + Sync>(
     Ok(())
 }
 
-/// In all ranges the vertices that stay are counted no more by those that rise on. Fails only if memory runs out.
+/// Lessens the counts of rising vertices by their neighbours that stay, in all ranges. Fails only if memory runs out.
 pub fn part_all<R: Threads + Sync>(
     rt: &R,
     step: &Step<'_>,

@@ -34,14 +34,13 @@ pub struct Sweep {
 pub struct Over<'a> {
     /// What each vertex counts.
     pub ranges: &'a Ranges,
-    /// How many the group of the sweep's level allows.
+    /// How many neighbours the band of the sweep's level allows.
     pub most: u32,
 }
 
 impl RoundTest for Over<'_> {
-    ghost use Rattle.kc_insert.specs.private.Ranges.{count_of};
+    ghost use Rattle.kc_insert.specs.private.Ranges.{count_of, is_over};
     ghost use Rattle.kc_insert.specs.Ranges.{IsIn};
-    ghost use Rattle.kc_insert.specs.private.Round.{is_over};
 
     ghost keeps = { λ test v. is_over (count_of test.ranges.now) test.most v };
 
@@ -52,7 +51,7 @@ impl RoundTest for Over<'_> {
     }
 }
 
-// The lesser of the two.
+// Returns the lesser of the two.
 fn lesser(a: u16, b: u16) -> u16
     ensures first { result ≤ a }
     ensures second { result ≤ b }
@@ -61,8 +60,8 @@ fn lesser(a: u16, b: u16) -> u16
     if a < b { a } else { b }
 }
 
-// The vertices of the list that rise stay where they are.
-fn settle_listed(levels: &mut RisingLevels, vertices: &[u32])
+// Stops the vertices of the list that rise.
+fn stop_listed(levels: &mut RisingLevels, vertices: &[u32])
     requires small { (v : ℕ) → rises levels.old v ≡ true → levels.old.level < 65535 }
     requires inside { (v : ℕ) → has_number v vertices.now ≡ true → v < length (seen levels.old) }
     ensures level { levels.new.level ≡ levels.old.level }
@@ -71,13 +70,13 @@ fn settle_listed(levels: &mut RisingLevels, vertices: &[u32])
 {
     for v in vertices {
         if levels.rises(*v) {
-            levels.settle(*v);
+            levels.stop(*v);
         }
     }
 }
 
-// All vertices that began and are kept stay where they are if they rise.
-fn settle_each(levels: &mut RisingLevels, items: &[Range])
+// Stops the vertices that the ranges keep as begun, if they rise.
+fn stop_kept(levels: &mut RisingLevels, items: &[Range])
     requires small { (v : ℕ) → rises levels.old v ≡ true → levels.old.level < 65535 }
     requires inside { (j v : ℕ) (d : _) → j < length items.now → has_number v (slice_index_or items.now j d).began ≡ true → v < length (seen levels.old) }
     ensures level { levels.new.level ≡ levels.old.level }
@@ -85,24 +84,14 @@ fn settle_each(levels: &mut RisingLevels, items: &[Range])
     ensures rises { (v : ℕ) → rises levels.new v ≡ (rises levels.old v && not (has_number v (flat_map (λ p. p.began) items.now))) }
 {
     for range in items {
-        settle_listed(levels, range.began.as_slice());
+        stop_listed(levels, range.began.as_slice());
     }
 }
 
-// The rising vertices, all of which are kept, stay where they are.
-fn settle_kept(levels: &mut RisingLevels, ranges: &Ranges)
-    requires small { (v : ℕ) → rises levels.old v ≡ true → levels.old.level < 65535 }
-    requires inside { (j v : ℕ) (d : _) → j < length ranges.now.parts → has_number v (slice_index_or ranges.now.parts j d).began ≡ true → v < length (seen levels.old) }
-    requires began { (v : ℕ) → rises levels.old v ≡ true → has_number v (all_began ranges.now) ≡ true }
-    ensures { levels.new.stored ≡ seen levels.old }
-{
-    let items = ranges.items.as_slice();
-    settle_each(levels, items);
-}
-
 impl Sweep {
-    /// The furthest level below the top up to which the vertices on the level of the sweep may rise together. On the
-    /// levels on the way no vertex waits or is to be met. Returns the sweep's own level if there is none beyond it.
+    /// Returns the furthest level below the top up to which the vertices on the level of the sweep may rise together.
+    /// On the levels on the way no vertex waits or is to be met. Returns the sweep's own level if there is none beyond
+    /// it.
     pub fn free_level(&self, th: &Thresholds) -> u16
         requires room { self.now.levels.level < top_level th.now.profile th.now.vertices }
         requires waiting { All (λ p. self.now.levels.level ≤ length p.queue) self.now.ranges.parts }
@@ -122,8 +111,8 @@ impl Sweep {
         )
     }
 
-    /// If another number of neighbours is few on the level of the sweep than by now, looks anew at all that rise. Fails
-    /// only if memory runs out.
+    /// Looks anew at all rising vertices if the limit is another one on the level of the sweep. Fails only if memory
+    /// runs out.
     pub fn look_anew(&mut self, th: &Thresholds) -> Result<(), AllocError>
         requires room { self.old.levels.level < top_level th.now.profile th.now.vertices }
         requires can { CanLookAnew self.old.levels self.old.ranges.parts }
@@ -150,14 +139,14 @@ impl Sweep {
         }
     }
 
-    /// The rising vertices stay where they are.
-    pub fn settle_all(&mut self)
+    /// Stops all rising vertices. The stored levels are then the levels of all vertices.
+    pub fn stop_all(&mut self)
         requires small { (v : ℕ) → rises self.old.levels v ≡ true → self.old.levels.level < 65535 }
         requires inside { (j v : ℕ) (d : _) → j < length self.old.ranges.parts → has_number v (slice_index_or self.old.ranges.parts j d).began ≡ true → v < length (seen self.old.levels) }
         requires began { (v : ℕ) → rises self.old.levels v ≡ true → has_number v (all_began self.old.ranges) ≡ true }
         ensures levels { self.new.levels.stored ≡ seen self.old.levels }
         ensures ranges { self.new.ranges ≡ self.old.ranges }
     {
-        settle_kept(&mut self.levels, &self.ranges);
+        stop_kept(&mut self.levels, &self.ranges.items);
     }
 }

@@ -42,7 +42,7 @@ impl Model for Told {
 }
 
 impl Told {
-    /// Empty lists for `ranges` ranges. Fails only if memory runs out.
+    /// Makes empty lists for `ranges` ranges. Fails only if memory runs out.
     pub fn new(alloc: Global, ranges: usize) -> Result<Self, AllocError>
         ensures { IfOk result (λ told. told ≡ record { all = []; lists = replicate ranges [] }) }
     {
@@ -114,14 +114,14 @@ impl Told {
         Ok(())
     }
 
-    /// All vertices that the pass told, in order.
+    /// Returns all vertices that the pass told, in order.
     pub fn all(&self) -> &[u32]
         ensures { result.now ≡ self.now.all }
     {
         self.all.as_slice()
     }
 
-    /// The vertices of a range that the pass told, after `deal`.
+    /// Returns the vertices of a range that the pass told, after `deal`.
     pub fn of_range(&self, range: usize) -> &[u32]
         requires { range < length self.now.lists }
         ensures { result.now ≡ slice_index_or self.now.lists range [] }

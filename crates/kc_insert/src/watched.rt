@@ -4,7 +4,7 @@ ghost use Rattle.std.specs.Prelude.{◌≡◌, ◌+◌, ◌-◌, ◌<◌, ◌≤
 ghost use Rattle.kc_graph.specs.Numbers.{has_number};
 ghost use Rattle.kc_insert.specs.private.Telling.{times};
 ghost use Rattle.kc_insert.specs.private.Watched.{count_at, is_few, StayWatched};
-ghost use Rattle.kc_insert.specs.Ranges.{IsHeld};
+ghost use Rattle.kc_insert.specs.Ranges.{HasVertex};
 
 use std::alloc::{AllocError, Global};
 use std::marker::Model;
@@ -35,7 +35,7 @@ impl Model for WatchedCounts {
 }
 
 impl WatchedCounts {
-    /// The vertices from `first` on, with these counts and an empty watch list. Fails only if memory runs out.
+    /// Makes counts of the vertices from `first` on, with an empty watch list. Fails only if memory runs out.
     pub fn new(alloc: Global, first: u32, counts: &[u32]) -> Result<Self, AllocError>
         requires { first + length counts.now ≤ 2 ^ 24 }
         ensures { IfOk result (λ w. w ≡ record { first = first; counts = counts.now; most = 0; doubtful = [] }) }
@@ -48,36 +48,36 @@ impl WatchedCounts {
         })
     }
 
-    /// How many neighbours v counts.
+    /// Returns how many neighbours v counts.
     pub fn count(&self, v: u32) -> u32
-        requires { IsHeld self.now v }
+        requires { HasVertex self.now v }
         ensures { result ≡ count_at self.now v }
     {
         self.counts[(v - self.first) as usize]
     }
 
-    /// The first vertex of the range.
+    /// Returns the first vertex of the range.
     pub fn first(&self) -> u32
         ensures { result ≡ self.now.first }
     {
         self.first
     }
 
-    /// The counts, that of the first vertex first.
+    /// Returns the counts, that of the first vertex first.
     pub fn counts(&self) -> &[u32]
         ensures { result.now ≡ self.now.counts }
     {
         self.counts.as_slice()
     }
 
-    /// The limit: the greatest count with which a rising vertex stays.
+    /// Returns the limit: the greatest count with which a rising vertex stays.
     pub fn most(&self) -> u32
         ensures { result ≡ self.now.most }
     {
         self.most
     }
 
-    /// The watch list.
+    /// Returns the watch list.
     pub fn doubtful(&self) -> &[u32]
         ensures { result.now ≡ self.now.doubtful }
     {
@@ -91,17 +91,17 @@ impl WatchedCounts {
         self.doubtful.clear();
     }
 
-    /// v counts `count`, and the watch list stays.
+    /// Sets the count of v. The watch list stays.
     pub fn set(&mut self, v: u32, count: u32)
-        requires { IsHeld self.old v }
+        requires { HasVertex self.old v }
         ensures { self.new ≡ record self.old { counts = slice_set self.old.counts (v - self.old.first) count } }
     {
         self.counts[(v - self.first) as usize] = count;
     }
 
-    /// v counts one less. Fails only if memory runs out.
+    /// Lessens the count of v by one. Fails only if memory runs out.
     pub fn lessen(&mut self, v: u32) -> Result<(), AllocError>
-        requires vertex { IsHeld self.old v }
+        requires vertex { HasVertex self.old v }
         requires some { 1 ≤ count_at self.old v }
         ensures counts { OnOk result (self.new.counts ≡ slice_set self.old.counts (v - self.old.first) (count_at self.old v - 1)) }
         ensures watched { OnOk result (StayWatched self.old self.new) }
@@ -115,9 +115,10 @@ impl WatchedCounts {
         Ok(())
     }
 
-    /// Each vertex of the list counts one less for each time that it is there. Fails only if memory runs out.
+    /// Lessens the count of each vertex of the list, once for each time that it is there. Fails only if memory runs
+    /// out.
     pub fn lessen_all(&mut self, vertices: &[u32]) -> Result<(), AllocError>
-        requires held { (v : ℕ) → has_number v vertices.now ≡ true → IsHeld self.old v }
+        requires held { (v : ℕ) → has_number v vertices.now ≡ true → HasVertex self.old v }
         requires enough { (v : ℕ) → times v vertices.now ≤ count_at self.old v }
         ensures less { OnOk result ((v : ℕ) → self.old.first ≤ v → count_at self.new v + times v vertices.now ≡ count_at self.old v) }
         ensures watched { OnOk result (StayWatched self.old self.new) }
@@ -128,9 +129,9 @@ impl WatchedCounts {
         Ok(())
     }
 
-    /// v counts `count`. Fails only if memory runs out.
+    /// Sets the count of v, and watches v if the count is within the limit. Fails only if memory runs out.
     pub fn put(&mut self, v: u32, count: u32) -> Result<(), AllocError>
-        requires { IsHeld self.old v }
+        requires { HasVertex self.old v }
         ensures counts { OnOk result (self.new.counts ≡ slice_set self.old.counts (v - self.old.first) count) }
         ensures watched { OnOk result (StayWatched self.old self.new) }
     {
@@ -142,10 +143,10 @@ impl WatchedCounts {
         Ok(())
     }
 
-    /// From now on the limit is `most`: the watch list has those of the vertices, in order, that count at most that.
-    /// Fails only if memory runs out.
+    /// Makes `most` the limit: the watch list has the vertices, in order, whose count is within it. Fails only if
+    /// memory runs out.
     pub fn watch(&mut self, most: u32, vertices: &[u32]) -> Result<(), AllocError>
-        requires { (v : ℕ) → has_number v vertices.now ≡ true → IsHeld self.old v }
+        requires { (v : ℕ) → has_number v vertices.now ≡ true → HasVertex self.old v }
         ensures { OnOk result (self.new ≡ record self.old { most = most; doubtful = filter (is_few self.old most) vertices.now }) }
     {
         self.most = most;

@@ -44,7 +44,7 @@ impl Model for InsertionWork {
 }
 
 impl InsertionWork {
-    /// Ready for this graph; the thresholds are for its number of vertices.
+    /// Makes a workspace that is ready for this graph. The thresholds are for its number of vertices.
     ///
     /// Costs a pass over the vertices, and for each range one over the levels up to the top. Fails only if memory runs
     /// out.
@@ -55,7 +55,7 @@ impl InsertionWork {
         InsertionWork::with_layout(alloc, th, adj, Layout::of(adj.graph().vertices()))
     }
 
-    /// As `new`, with the vertices cut as by this layout.
+    /// Does what `new` does, with the vertices cut as by this layout.
     pub fn with_layout(
         alloc: Global,
         th: &Thresholds,
@@ -65,6 +65,7 @@ impl InsertionWork {
         requires scale { th.now.vertices ≡ adj.now.graph.vertices }
         ensures { IfOk result (λ work. IsReady th.now.profile adj.now work) }
     {
+        // Evidence for the check: the vertices of the graph are at most `MAX_VERTICES`.
         let _n = adj.graph().vertices();
         Ok(InsertionWork {
             sweep: Sweep {
@@ -89,6 +90,7 @@ impl InsertionWork {
         requires moves { All (λ m. m.vertex < adj.now.graph.vertices) moves.now }
         ensures { StaysReady adj.now removed.now moves.now self.old self.new }
     {
+        // Evidence for the check: each vertex has a level.
         let _levels = adj.levels();
         let fresh = Counted {
             graph: adj.graph(),
@@ -117,6 +119,7 @@ pub fn take_moves<R: Threads + Sync, G: Gate + Sync, L: Ledger>(
     ensures forgot { OnOk result (Forgot sweep.old.ranges sweep.new.ranges) }
     ensures cost { OnOk result (steps.new ≡ steps.old + lift_cost adj.old.graph sweep.old.ranges) }
 {
+    // Evidence for the check: each vertex has a level.
     let _levels = adj.levels();
     let alloc = rounds.alloc();
     let new = &sweep.levels.stored;

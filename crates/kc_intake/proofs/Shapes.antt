@@ -12,11 +12,11 @@ use Rattle.kc_intake.specs.declared.updates.Update.{Update}
 use Rattle.kc_intake.specs.declared.roles.Submitted.{Submitted}
 use Rattle.kc_intake.specs.declared.roles.Drained.{Drained}
 use Rattle.kc_intake.specs.declared.roles.Role.{Role}
-use Rattle.kc_intake.specs.declared.roles.Role.TheVariants.{Submits, Drains}
+use Rattle.kc_intake.specs.declared.roles.Role.TheVariants.{Drains}
 use Rattle.kc_intake.specs.Causes.{Holds, HoldsOf, HeldAtStep, StaysAtSubmit}
 use Rattle.kc_intake.specs.private.Steps.{with_client, client_of, with_last, with_added, adds, at_drainer, took_in, drain_learns}
 use Rattle.kc_intake.specs.Updates.{updates_of, updates_in, all_updates, AreNumbered}
-use Rattle.kc_intake.specs.Views.{IntakeShape, ClientShape, DrainerShape, intake_of, submitted_of, drained_of, client_shape, drainer_shape, IsClient, IsDrainer, AreAllDrained, submitted, new_client}
+use Rattle.kc_intake.specs.Views.{IntakeShape, ClientShape, DrainerShape, intake_of, submitted_of, drained_of, client_shape, drainer_shape, IsDrainer, AreAllDrained, submitted, new_client}
 use Rattle.kc_intake.proofs.Lists.{of_append, last_added}
 
 -- a cause that a pass has learned, in the words of what callers see
@@ -81,9 +81,6 @@ client_came old new client intake n before after is same went state came table l
       now.1 ∙ ap (λ (z : Drained). record z { clients = z.clients + 1 }) state,
       more ∙ (λ i. listed i ++ its i ∷ []) ∙ sym (map-range_with_len_more (new_client intake) 0 n n (omega arith)),
     )
-
-pub is_client : (old client : Pass Update Role) → view client ≡ client_of (view old) → client.me.1 ≡ [] → IsClient client
-is_client old client came free = record { role_is = came ∙ ap Submits (sym (ap submitted_of came)); free = free }
 
 -- a client was taken in
 pub joined_now : (old new client : Pass Update Role) → IsDrainer old → IsSamePass old new → view new ≡ took_in (view old) (view client) → IsDrainer new × (drained_of (view new) ≡ record (drained_of (view old)) { joined = (drained_of (view old)).joined ++ submitted_of (view client) ∷ [] })

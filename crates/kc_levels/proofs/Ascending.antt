@@ -1,9 +1,9 @@
 -- Vertices in ascending order, and the moves between two lists of levels.
-use Rattle.std.proofs.Common.{ℕ, suc, ◌+◌, ◌≤◌, ◌<◌, ◌≡◌, ◌≢◌, inl, inr, Bool, true, false, cond, eqb, ◌&&◌, ◌||◌, ltb, List, [], ◌∷◌, ◌++◌, length, get_or, map, set, take, refl, ap, sym, ◌∙◌, arith, subst}
+use Rattle.std.proofs.Common.{ℕ, suc, ◌+◌, ◌≤◌, ◌<◌, ◌≡◌, ◌≢◌, inl, inr, true, false, cond, eqb, ◌&&◌, ltb, List, [], ◌∷◌, ◌++◌, length, get_or, map, set, take, refl, ap, sym, ◌∙◌, arith, subst}
 use Rattle.std.specs.Bool.{⊤}
 use Rattle.std.specs.List.{All, sum_by}
 use Rattle.std.specs.List.Sorted.{IsPermutation, IsNonDecreasing}
-use Rattle.std.proofs.lemmas.Bool.{cases_eq, cases_lt, cases_Bool, true≢false}
+use Rattle.std.proofs.lemmas.Bool.{cases_eq, cases_Bool, true≢false}
 use Rattle.std.proofs.lemmas.Bool.Decides.{nat_tests}
 use Rattle.std.proofs.lemmas.List.{length-map, get_or-map, get_or_past}
 use Rattle.std.proofs.lemmas.List.Sums.{sum_by-cons}
@@ -27,29 +27,11 @@ times_cons v u us = sum_by-cons (λ t. cond (eqb t v) 1 0) u us
 
 has_times : (v : ℕ) (vs : List ℕ) → has_number v vs ≡ ltb 0 (times v vs)
 has_times v [] = refl
-has_times v (u ∷ us) = either u v (times v (u ∷ us)) (times v us) (has_number v us) (times_cons v u us) (has_times v us)
-  where
-    either : (a b k n : ℕ) (h : Bool) → k ≡ cond (eqb a b) 1 0 + n → h ≡ ltb 0 n → eqb a b || h ≡ ltb 0 k
-    either a b k n h e f = elim (cases_eq a b) [
-      | inl is ↦ grind (arith, nat_tests, is, e, f)
-      | inr ne ↦ grind (arith, nat_tests, ne, e, f)
-    ]
+has_times v (u ∷ us) = grind (arith, nat_tests, has_times v us, times_cons)
 
 distinct_times : (v : ℕ) (vs : List ℕ) → AreDistinct vs → times v vs ≤ 1
 distinct_times v [] d = omega arith
-distinct_times v (u ∷ us) d = elim (cases_eq u v) [
-  | inl e ↦ alone u v (times v (u ∷ us)) (times v us) (times_cons v u us) (sym (has_times v us) ∙ ap (λ t. has_number t us) (sym e) ∙ d.0)
-  | inr ne ↦ apart u v (times v (u ∷ us)) (times v us) (times_cons v u us) ne (distinct_times v us d.1)
-]
-  where
-    alone : (a b k n : ℕ) → k ≡ cond (eqb a b) 1 0 + n → ltb 0 n ≡ false → k ≤ 1
-    alone a b k n e none = elim (cases_eq a b) [
-      | inl is ↦ grind (arith, nat_tests, is, e, none)
-      | inr ne ↦ grind (arith, nat_tests, ne, e, none)
-    ]
-
-    apart : (a b k n : ℕ) → k ≡ cond (eqb a b) 1 0 + n → a ≢ b → n ≤ 1 → k ≤ 1
-    apart a b k n e ne few = grind (arith, nat_tests, e, ne, few)
+distinct_times v (u ∷ us) d = grind (arith, nat_tests, distinct_times v us d.1, times_cons, has_times, d.0, d.1)
 
 rises_from : (low : ℕ) (vs : List ℕ) → IsNonDecreasing vs → ((v : ℕ) → times v vs ≤ 1) → (0 < length vs → low ≤ get_or vs 0 0) → RisesFrom low vs
 rises_from low [] up few from = record {}
@@ -83,25 +65,11 @@ module _ (old new : List ℕ) (d : AreDistinct old) (moved : IsPermutation old n
 
 -- the moves of all who rose, ascending
 pub moves_are : (n : ℕ) (x y vs : List ℕ) → RisesFrom 0 vs → ((v : ℕ) → has_number v vs ≡ is_moved x y v) → ((v : ℕ) → has_number v vs ≡ true → v < n) → map (move_of x y) vs ≡ moves_between n x y
-moves_are n x y vs up each inside = ap (map (move_of x y)) (moved_below_is (is_moved x y) n vs up (λ v. elim (cases_Bool (has_number v vs)) [
-  | inl there ↦ both v (inside v there) (sym (each v) ∙ there) there
-  | inr none ↦ neither v (sym (each v) ∙ none) none
-]))
-  where
-    both : (v : ℕ) → v < n → is_moved x y v ≡ true → has_number v vs ≡ true → has_number v vs ≡ ltb v n && is_moved x y v
-    both v h e f = f ∙ sym (ap (λ b. ltb v n && b) e ∙ grind (arith, nat_tests, h))
-
-    neither : (v : ℕ) → is_moved x y v ≡ false → has_number v vs ≡ false → has_number v vs ≡ ltb v n && is_moved x y v
-    neither v e f = f ∙ sym (ap (λ b. ltb v n && b) e ∙ grind (arith, nat_tests))
+moves_are n x y vs up each inside = grind (arith, nat_tests, moved_below_is)
 
 -- who moves is a vertex
 pub moved_inside : (n : ℕ) (x y : List ℕ) (v : ℕ) → length x ≡ n → length y ≡ n → is_moved x y v ≡ true → v < n
-moved_inside n x y v long wide moves = elim (cases_lt v n) [
-  | inl h ↦ h
-  | inr past ↦
-      let same : get_or x v 0 ≡ get_or y v 0 = get_or_past x v 0 (omega (arith, past, long)) ∙ sym (get_or_past y v 0 (omega (arith, past, wide))) in
-      absurd (true≢false (sym moves ∙ grind (arith, nat_tests, same)))
-]
+moved_inside n x y v long wide moves = grind (arith, nat_tests, get_or_past, true≢false)
 
 -- a vertex that none of the moves is of has its level
 pub still_here : (n : ℕ) (x y : List ℕ) (v : ℕ) → v < n → All (λ m. v ≢ m.vertex) (moves_between n x y) → get_or x v 0 ≡ get_or y v 0
@@ -134,7 +102,4 @@ following_next x y z after moves i d long at is set_is s =
 -- a vertex more, which wasn't there
 pub distinct_push : (vs : List ℕ) (v : ℕ) → AreDistinct vs → has_number v vs ≡ false → AreDistinct (vs ++ v ∷ [])
 distinct_push [] v d none = (refl, record {})
-distinct_push (w ∷ vs) v d none = (
-  has_number-push w v vs ∙ grind (arith, nat_tests, d.0, none),
-  distinct_push vs v d.1 (grind (arith, nat_tests, none)),
-)
+distinct_push (w ∷ vs) v d none = grind (arith, nat_tests, distinct_push vs v d.1 (grind (arith, nat_tests, none)), has_number-push, d.0, d.1)

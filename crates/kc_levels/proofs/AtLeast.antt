@@ -1,7 +1,7 @@
 -- How the number of neighbours from a level on changes with the levels.
 use Rattle.std.proofs.Common.{ℕ, suc, ◌+◌, ◌≤◌, ◌<◌, ◌≡◌, ◌≢◌, ◌⊎◌, inl, inr, Bool, true, false, cond, leb, List, [], ◌∷◌, length, get_or, set, refl, ap, sym, ◌∙◌, arith}
 use Rattle.std.specs.Prelude.{count_by}
-use Rattle.std.proofs.lemmas.Bool.{cases_lt, cases_eq, le-leb, leb-true, true≢false}
+use Rattle.std.proofs.lemmas.Bool.{cases_eq, le-leb, leb-true, true≢false}
 use Rattle.std.proofs.lemmas.Bool.Decides.{nat_tests}
 use Rattle.std.proofs.lemmas.List.{get_or-set_same, get_or-set_other, get_or_past}
 use Rattle.std.proofs.lemmas.List.Sums.{sum_by-cons, count_by-le-length}
@@ -16,33 +16,16 @@ count_by-cons test w ws = sum_by-cons (λ u. cond (test u) 1 0) w ws
 
 pub count_by-mono : (p q : ℕ → Bool) (xs : List ℕ) → ((x : ℕ) → p x ≡ true → q x ≡ true) → count_by p xs ≤ count_by q xs
 count_by-mono p q [] more = omega arith
-count_by-mono p q (x ∷ xs) more =
-    let later : count_by p xs ≤ count_by q xs = count_by-mono p q xs more in
-    let one : cond (p x) 1 0 ≤ cond (q x) 1 0 = step (p x) (q x) (more x) in
-    omega (arith, count_by-cons p x xs, count_by-cons q x xs)
-  where
-    step : (a b : Bool) → (a ≡ true → b ≡ true) → cond a 1 0 ≤ cond b 1 0
-    step false b h = omega arith
-    step true b h = rw (h refl) (omega arith)
+count_by-mono p q (x ∷ xs) more = grind (arith, nat_tests, count_by-mono p q xs more, count_by-cons)
 
 -- a level that is at most another at each vertex is so past the end too
 pub below_everywhere : (n : ℕ) (x y : List ℕ) (w : ℕ) → length x ≡ n → IsBelow n x y → get_or x w 0 ≤ get_or y w 0
-below_everywhere n x y w long below = elim (cases_lt w n) [
-  | inl lt ↦ below w lt
-  | inr ge ↦ let none : get_or x w 0 ≡ 0 = get_or_past x w 0 (omega arith) in omega arith
-]
+below_everywhere n x y w long below = grind (arith, nat_tests, get_or_past)
 
 -- where no level falls no count falls
 pub at_least-mono : (g : GraphShape) (x y : List ℕ) (v l : ℕ) → length x ≡ g.vertices → IsBelow g.vertices x y → at_least g x v l ≤ at_least g y v l
 unfolding at_least
-at_least-mono g x y v l long below =
-    count_by-mono (λ w. leb l (get_or x w 0)) (λ w. leb l (get_or y w 0)) (neighbours_of v g.edges) (λ w e. more w e)
-  where
-    more : (w : ℕ) → leb l (get_or x w 0) ≡ true → leb l (get_or y w 0) ≡ true
-    more w e =
-        let reach : l ≤ get_or x w 0 = leb-true l (get_or x w 0) e in
-        let over : get_or x w 0 ≤ get_or y w 0 = below_everywhere g.vertices x y w long below in
-        le-leb l (get_or y w 0) (omega arith)
+at_least-mono g x y v l long below = grind (arith, nat_tests, count_by-mono, leb-true, below_everywhere, le-leb)
 
 -- from a lower level on there are no fewer
 pub at_least-down : (g : GraphShape) (x : List ℕ) (v k l : ℕ) → k ≤ l → at_least g x v l ≤ at_least g x v k
@@ -100,11 +83,4 @@ at_least-change g y u v k l graph inside near =
 
 -- it stays where v was and is on the same side of the level
 pub at_least-kept : (g : GraphShape) (y : List ℕ) (u v k l : ℕ) → IsGraph g → v < length y → has_number u (neighbours_of v g.edges) ≡ true → (l ≤ get_or y v 0) × (l ≤ k) ⊎ (get_or y v 0 < l) × (k < l) → at_least g (set y v k) u l ≡ at_least g y u l
-at_least-kept g y u v k l graph inside near side = even _ _ _ _ (at_least-change g y u v k l graph inside near) (same_side (get_or y v 0) k l side)
-  where
-    same_side : (a b j : ℕ) → (j ≤ a) × (j ≤ b) ⊎ (a < j) × (b < j) → leb j a ≡ leb j b
-    same_side a b j (inl h) = grind (arith, nat_tests, h.0, h.1)
-    same_side a b j (inr h) = grind (arith, nat_tests, h.0, h.1)
-
-    even : (m n : ℕ) (a b : Bool) → m + cond a 1 0 ≡ n + cond b 1 0 → a ≡ b → m ≡ n
-    even m n a b e f = omega (arith, rw f at e)
+at_least-kept g y u v k l graph inside near side = grind (arith, nat_tests, at_least-change)

@@ -1,7 +1,8 @@
 -- Both invariants between two states in which they hold, and in one vertex.
-use Rattle.std.proofs.Common.{ℕ, suc, zero, ◌≤◌, ◌<◌, ◌≡◌, inl, inr, true, ◌&&◌, List, get_or, refl, sym, arith}
+use Rattle.std.proofs.Common.{ℕ, suc, zero, ◌≤◌, ◌<◌, ◌≡◌, inl, inr, true, ◌&&◌, List, get_or, sym, arith}
 use Rattle.std.specs.Prelude.{nat_le}
-use Rattle.std.proofs.lemmas.Bool.{cases_Bool, leb-true, le-leb, and_parts, and_from}
+use Rattle.std.proofs.lemmas.Bool.{leb-true, le-leb, and_parts, and_from}
+use Rattle.std.proofs.lemmas.Bool.Decides.{nat_tests}
 use Rattle.kc_graph.specs.Numbers.{count_below}
 use Rattle.kc_graph.specs.Shape.{GraphShape, IsGraph, joined}
 use Rattle.kc_graph.proofs.lemmas.Neighbours.{count_by-neighbours_of}
@@ -17,19 +18,10 @@ unfolding at_least
 over_all g x v l graph = count_by-neighbours_of g.vertices v (λ w. nat_le l (get_or x w 0)) g.edges graph
 
 at_least-more : (g h : GraphShape) (x y : List ℕ) (v l : ℕ) → IsGraph g → IsGraph h → g.vertices ≡ h.vertices → ((w : ℕ) → joined v w g.edges ≡ true → joined v w h.edges ≡ true) → ((w : ℕ) → get_or x w 0 ≤ get_or y w 0) → at_least g x v l ≤ at_least h y v l
-at_least-more g h x y v l g_is h_is same edges levels =
-    rw (over_all g x v l g_is, over_all h y v l h_is, same)
-    (count_below-mono h.vertices (λ w. joined v w g.edges && nat_le l (get_or x w 0)) (λ w. joined v w h.edges && nat_le l (get_or y w 0)) (λ w at e.
-    let parts = and_parts (joined v w g.edges) (nat_le l (get_or x w 0)) e in
-    and_from (joined v w h.edges) (nat_le l (get_or y w 0)) (edges w parts.0) (le-leb l (get_or y w 0) (omega (arith, leb-true l (get_or x w 0) parts.1, levels w)))))
+at_least-more g h x y v l g_is h_is same edges levels = grind (arith, nat_tests, over_all, count_below-mono, and_parts, and_from, le-leb, leb-true)
 
 at_least-alike : (g h : GraphShape) (x y : List ℕ) (v l : ℕ) → IsGraph g → IsGraph h → g.vertices ≡ h.vertices → IsAlike g h x y v → at_least h y v l ≡ at_least g x v l
-at_least-alike g h x y v l g_is h_is same is =
-    rw (over_all g x v l g_is, over_all h y v l h_is, same)
-    (count_below_agree h.vertices (λ w. joined v w h.edges && nat_le l (get_or y w 0)) (λ w. joined v w g.edges && nat_le l (get_or x w 0)) (λ w at. elim (cases_Bool (joined v w g.edges)) [
-      | inl there ↦ rw (is.edges w, is.levels w there) refl
-      | inr none ↦ rw (is.edges w, none) refl
-    ]))
+at_least-alike g h x y v l g_is h_is same is = grind (arith, nat_tests, over_all, count_below_agree, is.edges, is.levels)
 
 held-from : (p : Profile) (g h : GraphShape) (x y : List ℕ) (v l : ℕ) → g.vertices ≡ h.vertices → ((k : ℕ) → at_least g x v k ≤ at_least h y v k) → IsHeld p g x v l → IsHeld p h y v l
 held-from p g h x y v zero same counts held = tt
@@ -48,31 +40,31 @@ pub between_meets_both : BetweenMeetsBoth
 between_meets_both p a b h xa xb y is first last = record { sized = is.sized; upper = upper; lower = lower }
   where
     at_a : (v : ℕ) → v < h.vertices → v < a.vertices
-    at_a v lt = omega (arith, is.same_lower)
+    at_a v lt = omega (arith, is.graphs.same_lower)
 
     at_b : (v : ℕ) → v < h.vertices → v < b.vertices
-    at_b v lt = omega (arith, is.same_upper)
+    at_b v lt = omega (arith, is.graphs.same_upper)
 
     upper : (v : ℕ) → v < h.vertices → MeetsUpper p h y v
     upper v lt = elim (is.each v lt) [
       | inr changed ↦ elim changed [
-        | inl alike ↦ upper-alike p a h xa y v is.lower is.middle is.same_lower alike (first.upper v (at_a v lt))
-        | inr alike ↦ upper-alike p b h xb y v is.upper is.middle is.same_upper alike (last.upper v (at_b v lt))
+        | inl alike ↦ upper-alike p a h xa y v is.graphs.lower is.graphs.middle is.graphs.same_lower alike (first.upper v (at_a v lt))
+        | inr alike ↦ upper-alike p b h xb y v is.graphs.upper is.graphs.middle is.graphs.same_upper alike (last.upper v (at_b v lt))
       ]
       | inl same ↦
           let level : get_or y v 0 ≡ get_or xb v 0 = omega (arith, is.above v, is.below v) in
-          let fewer : at_least h y v (get_or y v 0) ≤ at_least b xb v (get_or y v 0) = at_least-more h b y xb v (get_or y v 0) is.middle is.upper (sym is.same_upper) (λ w e. is.fewer v w e) is.below in
-          let meets : at_least b xb v (get_or y v 0) ≤ high p (group_of p h.vertices (get_or y v 0)) = rw (level, ← is.same_upper) (last.upper v (at_b v lt)) in
+          let fewer : at_least h y v (get_or y v 0) ≤ at_least b xb v (get_or y v 0) = at_least-more h b y xb v (get_or y v 0) is.graphs.middle is.graphs.upper (sym is.graphs.same_upper) (λ w e. is.fewer v w e) is.below in
+          let meets : at_least b xb v (get_or y v 0) ≤ high p (group_of p h.vertices (get_or y v 0)) = rw (level, ← is.graphs.same_upper) (last.upper v (at_b v lt)) in
           omega arith
     ]
 
     lower : (v : ℕ) → v < h.vertices → MeetsLower p h y v
     lower v lt = elim (is.each v lt) [
       | inr changed ↦ elim changed [
-        | inl alike ↦ lower-alike p a h xa y v is.lower is.middle is.same_lower alike (first.lower v (at_a v lt))
-        | inr alike ↦ lower-alike p b h xb y v is.upper is.middle is.same_upper alike (last.lower v (at_b v lt))
+        | inl alike ↦ lower-alike p a h xa y v is.graphs.lower is.graphs.middle is.graphs.same_lower alike (first.lower v (at_a v lt))
+        | inr alike ↦ lower-alike p b h xb y v is.graphs.upper is.graphs.middle is.graphs.same_upper alike (last.lower v (at_b v lt))
       ]
       | inl same ↦
           let level : get_or y v 0 ≡ get_or xa v 0 = omega (arith, is.above v, is.below v) in
-          rw level (held-from p a h xa y v (get_or xa v 0) is.same_lower (λ k. at_least-more a h xa y v k is.lower is.middle is.same_lower (λ w e. is.more v w e) is.above) (first.lower v (at_a v lt)))
+          rw level (held-from p a h xa y v (get_or xa v 0) is.graphs.same_lower (λ k. at_least-more a h xa y v k is.graphs.lower is.graphs.middle is.graphs.same_lower (λ w e. is.more v w e) is.above) (first.lower v (at_a v lt)))
     ]

@@ -1,7 +1,7 @@
 -- Both invariants are kept where edges come in and the levels rise, and where edges leave and the levels fall.
-use Rattle.std.proofs.Common.{ℕ, suc, zero, ◌≤◌, ◌<◌, ◌≡◌, inl, inr, Bool, true, leb, ◌&&◌, List, length, get_or, set, refl, ap, sym, ◌∙◌, arith, subst}
+use Rattle.std.proofs.Common.{ℕ, suc, zero, ◌≤◌, ◌<◌, ◌≡◌, inl, inr, true, leb, ◌&&◌, List, length, get_or, set, refl, ap, sym, ◌∙◌, arith, subst}
 use Rattle.std.specs.Prelude.{count_by}
-use Rattle.std.proofs.lemmas.Bool.{cases_lt, cases_Bool}
+use Rattle.std.proofs.lemmas.Bool.{cases_lt}
 use Rattle.std.proofs.lemmas.Bool.Decides.{nat_tests}
 use Rattle.std.proofs.lemmas.List.{length-set, get_or-set_same}
 use Rattle.kc_graph.specs.Numbers.{count_below}
@@ -31,14 +31,8 @@ unfolding at_least
 at_least-subgraph g h y x v l s long below =
     omega (arith, at_least-mono g y x v l long below, fewer)
   where
-    test : ℕ → Bool
-    test w = leb l (get_or x w 0)
-
     joined_in_both : (w : ℕ) → joined v w g.edges && leb l (get_or x w 0) ≡ true → joined v w h.edges && leb l (get_or x w 0) ≡ true
-    joined_in_both w both = elim (cases_Bool (has_edge (v, w) g.edges)) [
-      | inl one ↦ grind (arith, nat_tests, both, s.edges (v, w) one)
-      | inr not_one ↦ let other : has_edge (w, v) g.edges ≡ true = grind (arith, nat_tests, both, not_one) in grind (arith, nat_tests, both, s.edges (w, v) other)
-    ]
+    joined_in_both w both = grind (arith, nat_tests, s.edges)
 
     fewer : count_by (λ w. leb l (get_or x w 0)) (neighbours_of v g.edges) ≤ count_by (λ w. leb l (get_or x w 0)) (neighbours_of v h.edges)
     fewer =

@@ -1,9 +1,9 @@
 -- What copies keep at the places that nothing was copied to.
-use Rattle.std.proofs.Common.{ℕ, ◌+◌, ◌≤◌, ◌<◌, ◌≡◌, ◌≢◌, inl, inr, List, length, get_or, set, take, refl, ap, sym, ◌∙◌, arith, subst}
+use Rattle.std.proofs.Common.{ℕ, ◌+◌, ◌≤◌, ◌<◌, ◌≡◌, ◌≢◌, inr, List, length, get_or, set, take, refl, sym, ◌∙◌, arith, subst}
 use Rattle.std.specs.List.{All}
-use Rattle.std.proofs.lemmas.Bool.{cases_eq}
 use Rattle.std.proofs.lemmas.List.{length-set, get_or-set_same, get_or-set_other, take_more, take_all}
 use Rattle.std.proofs.lemmas.List.Elements.{All-push}
+use Rattle.std.proofs.lemmas.Bool.Decides.{nat_tests}
 use Rattle.kc_levels.specs.private.Following.{IsCopied}
 
 module _ (from old : List ℕ) where
@@ -15,26 +15,14 @@ module _ (from old : List ℕ) where
   pub copied_one : (new : List ℕ) (v k : ℕ) (p q : ℕ → Type 0) → v < length old → k ≡ get_or from v 0 → IsCopied from old new p → ((u : ℕ) → u ≢ v → p u → q u) → IsCopied from old (set new v k) q
   copied_one new v k p q inside is s keeps = record {
     sized = length-set new v k ∙ s.sized;
-    each = λ u. elim (cases_eq u v) [
-      | inl e ↦ inl (ap (λ t. get_or (set new v k) t 0) e ∙ get_or-set_same new v k 0 (omega (arith, inside, s.sized)) ∙ is ∙ ap (λ t. get_or from t 0) (sym e))
-      | inr ne ↦ elim (s.each u) [
-        | inl done ↦ inl (get_or-set_other new v u k 0 ne ∙ done)
-        | inr kept ↦ inr (get_or-set_other new v u k 0 ne ∙ kept.0, keeps u ne kept.1)
-      ]
-    ];
+    each = λ u. grind (arith, nat_tests, get_or-set_same, get_or-set_other, s.sized, s.each);
   }
 
   -- more numbers were copied
   pub copied_then : (mid new : List ℕ) (p q r : ℕ → Type 0) → IsCopied from old mid p → IsCopied from mid new q → ((u : ℕ) → p u → q u → r u) → IsCopied from old new r
   copied_then mid new p q r s t keeps = record {
     sized = t.sized ∙ s.sized;
-    each = λ u. elim (t.each u) [
-      | inl done ↦ inl done
-      | inr kept ↦ elim (s.each u) [
-        | inl done ↦ inl (kept.0 ∙ done)
-        | inr first ↦ inr (kept.0 ∙ first.0, keeps u first.1 kept.1)
-      ]
-    ];
+    each = λ u. grind (arith, nat_tests, t.each, s.each);
   }
 
 -- the step of a loop over items, each of which spares some places

@@ -3,9 +3,10 @@ use Rattle.std.proofs.Common.{ℕ, suc, zero, ◌+◌, ◌-◌, ◌*◌, ◌/◌
 use Rattle.std.proofs.lemmas.Bool.{cases_lt, lt-ltb, le-ltb, ltb-true, le-leb, lt-leb, leb-true}
 use Rattle.std.proofs.lemmas.Nat.{mul-le, le-div, div_below, div-mul-add}
 use Rattle.std.proofs.Math.Nat.{div-mul-le_self}
+use Rattle.std.proofs.lemmas.Bool.Decides.{nat_tests}
 use Rattle.kc_graph.specs.declared.limits.TheConstants.{MAX_VERTICES}
 use Rattle.kc_levels.specs.declared.profile.Profile.{Profile}
-use Rattle.kc_levels.specs.Thresholds.{low, high, grow, high_over, least, height, last_group, top_level, group_of}
+use Rattle.kc_levels.specs.Thresholds.{low, high, grow, high_over, height, last_group, top_level, group_of}
 use Rattle.kc_levels.proofs.ProfileFacts.{most_height, most_group, grow-most, high-most, low-most, top-most, most_group-pos, most_group-small, high_over-ge}
 use Rattle.kc_levels.proofs.Least.{least_is, least-le, least-passes, least-pos, least-le-bound}
 use Rattle.kc_levels.proofs.Sequences.{high-at, high-ge, low-ge, low-mono, grow-ge, grow-mono}
@@ -20,12 +21,7 @@ height-le p n small = least-le (λ j. ltb n (grow p j)) n (most_height p) (lt-lt
 
 pub grow-height : (p : Profile) (n : ℕ) → n < grow p (height p n)
 unfolding height
-grow-height p n = elim (cases_lt (least (λ j. ltb n (grow p j)) n) n) [
-  | inl lt ↦ ltb-true n (grow p (least (λ j. ltb n (grow p j)) n)) (least-passes (λ j. ltb n (grow p j)) n lt)
-  | inr ge ↦
-      let all : least (λ j. ltb n (grow p j)) n ≡ n = omega (arith, least-le-bound (λ j. ltb n (grow p j)) n) in
-      rw all (omega (arith, grow-ge p n))
-]
+grow-height p n = grind (arith, nat_tests, ltb-true, least-passes, least-le-bound, grow-ge)
 
 -- a count of levels that a graph can't outgrow is short
 pub grow-few : (p : Profile) (j : ℕ) → grow p j ≤ MAX_VERTICES → j < most_height p
@@ -39,10 +35,7 @@ unfolding height
 height-is p n j above before = least_is (λ i. ltb n (grow p i)) n j within (λ h. lt-ltb n (grow p j) above) (λ i h. le-ltb n (grow p i) (before i h))
   where
     within : j ≤ n
-    within = elim (cases_lt n j) [
-      | inl lt ↦ let last : grow p (j - 1) ≤ n = before (j - 1) (omega arith) in absurd (omega (arith, grow-ge p (j - 1)))
-      | inr ge ↦ ge
-    ]
+    within = grind (arith, nat_tests, grow-ge)
 
 pub last_group-pos : (p : Profile) (n : ℕ) → 1 ≤ last_group p n
 unfolding last_group
@@ -50,22 +43,12 @@ last_group-pos p n = omega arith
 
 pub last_group-le : (p : Profile) (n : ℕ) → n ≤ MAX_VERTICES → last_group p n ≤ most_group p
 unfolding last_group
-last_group-le p n small =
-    let place : 1 + (most_group p - 1) ≡ most_group p = omega (arith, most_group-pos p) in
-    let enough : n - 1 ≤ high p (1 + (most_group p - 1)) = rw place (omega (arith, high-most p)) in
-    let few : least (λ i. leb (n - 1) (high p (1 + i))) n ≤ most_group p - 1 =
-    least-le (λ i. leb (n - 1) (high p (1 + i))) n (most_group p - 1) (le-leb (n - 1) (high p (1 + (most_group p - 1))) enough) in
-    omega (arith, most_group-pos p)
+last_group-le p n small = grind (arith, nat_tests, most_group-pos, high-most, least-le, le-leb)
 
 -- no vertex has more neighbours than the last group allows
 pub high-last_group : (p : Profile) (n : ℕ) → n - 1 ≤ high p (last_group p n)
 unfolding last_group
-high-last_group p n = elim (cases_lt (least (λ i. leb (n - 1) (high p (1 + i))) n) n) [
-  | inl lt ↦ leb-true (n - 1) (high p (1 + least (λ i. leb (n - 1) (high p (1 + i))) n)) (least-passes (λ i. leb (n - 1) (high p (1 + i))) n lt)
-  | inr ge ↦
-      let all : least (λ i. leb (n - 1) (high p (1 + i))) n ≡ n = omega (arith, least-le-bound (λ i. leb (n - 1) (high p (1 + i))) n) in
-      rw all (omega (arith, high-ge p (1 + n)))
-]
+high-last_group p n = grind (arith, nat_tests, leb-true, least-passes, least-le-bound, high-ge)
 
 -- the last group of a table that has lows up to group k + 1 and ends there
 pub last_group-is : (p : Profile) (n k : ℕ) → n - 1 ≤ high_over p (low p (1 + k)) → ((i : ℕ) → i < k → high_over p (low p (1 + i)) < n - 1) → last_group p n ≡ 1 + k
@@ -76,12 +59,7 @@ last_group-is p n k above before =
     (λ i h. lt-leb (n - 1) (high p (1 + i)) (rw (high-at p (1 + i) (omega arith)) (before i h))))
   where
     within : k ≤ n
-    within = elim (cases_lt n k) [
-      | inl lt ↦
-          let last : high_over p (low p (1 + (k - 1))) < n - 1 = before (k - 1) (omega arith) in
-          absurd (omega (arith, last, high_over-ge p (low p (1 + (k - 1))), low-ge p (1 + (k - 1))))
-      | inr ge ↦ ge
-    ]
+    within = grind (arith, nat_tests, high_over-ge, low-ge)
 
 pub low-small : (p : Profile) (n i : ℕ) → n ≤ MAX_VERTICES → i ≤ last_group p n → low p i < 2 ^ 24
 low-small p n i small at = omega (arith, low-most p, low-mono p i (most_group p) (omega (arith, last_group-le p n small)))
@@ -93,14 +71,7 @@ pub record IsTop (tall long : ℕ) : Type 0 where
   pub product : (long - 2) * tall < 19999
 
 pub top-fits : (p : Profile) (n tall long : ℕ) → n ≤ MAX_VERTICES → tall ≡ height p n → long ≡ 1 + last_group p n → IsTop tall long
-top-fits p n tall long small tall_is long_is =
-    let product : (long - 2) * tall ≤ (most_group p - 1) * most_height p =
-    mul-le (long - 2) tall (most_group p - 1) (most_height p) (omega (arith, last_group-le p n small)) (omega (arith, height-le p n small)) in
-    record {
-      long_enough = omega (arith, last_group-pos p n);
-      short_enough = omega (arith, last_group-le p n small, most_group-small p);
-      product = omega (arith, product, top-most p);
-    }
+top-fits p n tall long small tall_is long_is = grind (arith, nat_tests, most_group, most_height, mul-le, last_group-le, height-le, last_group-pos, most_group-small, top-most)
 
 pub group_of-at : (p : Profile) (n l : ℕ) → 1 ≤ l → group_of p n l ≡ 1 + (l - 1) / height p n
 group_of-at p n zero h = absurd (omega arith)
@@ -134,10 +105,7 @@ group_of-mono p n (suc k) (suc l) some le =
     omega arith
 
 pub top_level-le : (p : Profile) (n : ℕ) → n ≤ MAX_VERTICES → top_level p n ≤ 1 + (most_group p - 1) * most_height p
-top_level-le p n small =
-    let product : (last_group p n - 1) * height p n ≤ (most_group p - 1) * most_height p =
-    mul-le (last_group p n - 1) (height p n) (most_group p - 1) (most_height p) (omega (arith, last_group-le p n small)) (height-le p n small) in
-    omega arith
+top_level-le p n small = grind (arith, nat_tests, mul-le, last_group-le, height-le)
 
 pub top_level-small : (p : Profile) (n : ℕ) → n ≤ MAX_VERTICES → top_level p n < 20000
 top_level-small p n small = omega (arith, top_level-le p n small, top-most p)

@@ -1,9 +1,9 @@
 -- Insertions in two steps raise the same list as in one.
-use Rattle.std.proofs.Common.{ℕ, ◌≤◌, List, get_or, sym, ◌∙◌, arith}
+use Rattle.std.proofs.Common.{ℕ, List, sym, ◌∙◌, arith}
+use Rattle.std.proofs.lemmas.Bool.Decides.{nat_tests}
 use Rattle.kc_graph.specs.Shape.{GraphShape}
 use Rattle.kc_levels.specs.declared.profile.Profile.{Profile}
-use Rattle.kc_levels.specs.Thresholds.{high, group_of}
-use Rattle.kc_levels.specs.LevelList.{at_least, IsRaisable}
+use Rattle.kc_levels.specs.LevelList.{IsRaisable}
 use Rattle.kc_levels.specs.Laws.{InsertionsAloneGiveOneList}
 use Rattle.kc_levels.proofs.BothKept.{IsSubgraph, at_least-subgraph}
 
@@ -13,10 +13,7 @@ raisable_in_fewer p g h x z s r = record {
   sized = r.sized ∙ sym s.same;
   from = λ v at. r.from v (omega (arith, s.same));
   capped = λ v at. rw s.same (r.capped v (omega (arith, s.same)));
-  upper = λ v at.
-      let fewer : at_least g z v (get_or z v 0) ≤ at_least h z v (get_or z v 0) = at_least-subgraph g h z z v (get_or z v 0) s (r.sized ∙ sym s.same) (λ w here. omega arith) in
-      let most : at_least h z v (get_or z v 0) ≤ high p (group_of p g.vertices (get_or z v 0)) = rw s.same (r.upper v (omega (arith, s.same))) in
-      omega (arith, fewer, most);
+  upper = λ v at. grind (arith, nat_tests, at_least-subgraph, r.sized, s.same, r.upper);
 }
 
 pub insertions_alone_give_one_list : InsertionsAloneGiveOneList

@@ -1,26 +1,17 @@
 -- Lowering: what a fall keeps, whatever the order of the falls, and that it leads to the one lowered list.
-use Rattle.std.proofs.Common.{ℕ, suc, zero, ◌-◌, ◌≤◌, ◌<◌, ◌≡◌, ◌⊎◌, inl, inr, List, length, get_or, set, sym, ◌∙◌, arith}
-use Rattle.std.proofs.lemmas.Bool.{cases_lt}
+use Rattle.std.proofs.Common.{ℕ, suc, zero, ◌-◌, ◌≤◌, ◌<◌, ◌≡◌, ◌⊎◌, inl, List, length, get_or, set, sym, ◌∙◌, arith}
 use Rattle.std.proofs.lemmas.List.{length-set}
 use Rattle.std.proofs.lemmas.Grind.{same_number_lists}
+use Rattle.std.proofs.lemmas.Bool.Decides.{nat_tests}
 use Rattle.kc_graph.specs.Shape.{GraphShape}
 use Rattle.kc_levels.specs.declared.profile.Profile.{Profile}
-use Rattle.kc_levels.specs.Thresholds.{low, group_of}
-use Rattle.kc_levels.specs.LevelList.{at_least, IsBelow, IsHeld, MeetsLower, IsDesired, IsLowerable, IsLowered}
+use Rattle.kc_levels.specs.Thresholds.{group_of}
+use Rattle.kc_levels.specs.LevelList.{IsBelow, IsHeld, MeetsLower, IsDesired, IsLowerable, IsLowered}
 use Rattle.kc_levels.specs.private.LevelList.{IsLowering}
 use Rattle.kc_levels.proofs.Sequences.{low-mono}
 use Rattle.kc_levels.proofs.Groups.{group_of-mono}
 use Rattle.kc_levels.proofs.Places.{changed}
 use Rattle.kc_levels.proofs.AtLeast.{at_least-mono, at_least-down}
-
--- what a level above 0 asks
-pub held-at : (p : Profile) (g : GraphShape) (x : List ℕ) (v l : ℕ) → 1 ≤ l → low p (group_of p g.vertices (l - 1)) ≤ at_least g x v (l - 1) → IsHeld p g x v l
-held-at p g x v zero some enough = tt
-held-at p g x v (suc l) some enough = let same : suc l - 1 ≡ l = omega arith in rw same at enough
-
-pub held-asks : (p : Profile) (g : GraphShape) (x : List ℕ) (v l : ℕ) → 1 ≤ l → IsHeld p g x v l → low p (group_of p g.vertices (l - 1)) ≤ at_least g x v (l - 1)
-held-asks p g x v zero some held = absurd (omega arith)
-held-asks p g x v (suc l) some held = let same : suc l - 1 ≡ l = omega arith in rw same held
 
 -- where no level fell, v is still held
 pub held_mono : (p : Profile) (g : GraphShape) (z y : List ℕ) (v l : ℕ) → length z ≡ g.vertices → IsBelow g.vertices z y → IsHeld p g z v l → IsHeld p g y v l
@@ -36,10 +27,7 @@ held_down p g x v (suc k) (suc l) some le held =
 
 pub held_or_not : (p : Profile) (g : GraphShape) (y : List ℕ) (v l : ℕ) → IsHeld p g y v l ⊎ ¬ (IsHeld p g y v l)
 held_or_not p g y v zero = inl tt
-held_or_not p g y v (suc l) = elim (cases_lt (at_least g y v l) (low p (group_of p g.vertices l))) [
-  | inl lt ↦ inr (λ held. absurd (omega (arith, held)))
-  | inr ge ↦ inl ge
-]
+held_or_not p g y v (suc l) = grind (arith, nat_tests)
 
 -- the list that lowering begins with
 pub lowering_first : (p : Profile) (g : GraphShape) (x : List ℕ) → length x ≡ g.vertices → IsLowering p g x x
@@ -52,10 +40,7 @@ pub record IsOver (p : Profile) (g : GraphShape) (y : List ℕ) (v l : ℕ) : Ty
 
 -- a level that no lowerable list passes
 stays_under : (p : Profile) (g : GraphShape) (x y z : List ℕ) (v l : ℕ) → IsLowering p g x y → v < g.vertices → IsOver p g y v l → IsLowerable p g x z → get_or z v 0 ≤ l
-stays_under p g x y z v l r h over lowerable = elim (cases_lt l (get_or z v 0)) [
-  | inl lt ↦ absurd (over.above (get_or z v 0) lt (r.greatest z lowerable v h) (held_mono p g z y v (get_or z v 0) lowerable.sized (r.greatest z lowerable) (lowerable.lower v h)))
-  | inr ge ↦ ge
-]
+stays_under p g x y z v l r h over lowerable = grind (arith, nat_tests, held_mono, over.above, r.greatest, lowerable.sized, lowerable.lower)
 
 -- a vertex falls to its desired level
 pub lowering_more : (p : Profile) (g : GraphShape) (x y : List ℕ) (v l : ℕ) → IsLowering p g x y → v < g.vertices → IsDesired p g y v l → IsLowering p g x (set y v l)
@@ -67,21 +52,6 @@ lowering_more p g x y v l r h d = record {
   where
     inside : v < length y
     inside = omega (arith, r.sized)
-
--- many vertices fall at once, none below a level that holds it
-pub lowering_many : (p : Profile) (g : GraphShape) (x y z : List ℕ) → IsLowering p g x y → length z ≡ g.vertices → ((v : ℕ) → v < g.vertices → IsOver p g y v (get_or z v 0)) → IsLowering p g x z
-lowering_many p g x y z r long over = record {
-  sized = long;
-  under = λ v h. omega (arith, (over v h).under, r.under v h);
-  greatest = λ w lowerable v h. stays_under p g x y w v (get_or z v 0) r h (over v h) lowerable;
-}
-
-pub lowering_then : (p : Profile) (g : GraphShape) (x y z : List ℕ) → IsLowering p g x y → IsLowering p g y z → IsLowering p g x z
-lowering_then p g x y z r s = record {
-  sized = s.sized;
-  under = λ v h. omega (arith, r.under v h, s.under v h);
-  greatest = λ w lowerable. s.greatest w (record { sized = lowerable.sized; under = r.greatest w lowerable; lower = lowerable.lower });
-}
 
 -- lowering ends where each vertex meets Lower
 pub lowering_done : (p : Profile) (g : GraphShape) (x y : List ℕ) → IsLowering p g x y → ((v : ℕ) → v < g.vertices → MeetsLower p g y v) → IsLowered p g x y

@@ -5,6 +5,7 @@ use Rattle.std.proofs.lemmas.List.{length-set}
 use Rattle.std.proofs.lemmas.List.Elements.{All-set, All-from_get_or}
 use Rattle.std.proofs.lemmas.List.Sums.{sum_by-set, sum_by-le}
 use Rattle.std.proofs.lemmas.Grind.{same_number_lists}
+use Rattle.std.proofs.lemmas.Bool.Decides.{nat_tests}
 use Rattle.kc_graph.specs.Shape.{GraphShape, IsGraph}
 use Rattle.kc_levels.specs.declared.profile.Profile.{Profile}
 use Rattle.kc_levels.specs.Thresholds.{high, top_level, group_of, last_group}
@@ -32,10 +33,7 @@ pub top_meets_upper : (p : Profile) (g : GraphShape) (x : List ℕ) (v : ℕ) �
 top_meets_upper p g x v graph h e = top_allows p g.vertices (get_or x v 0) (at_least g x v (get_or x v 0)) e (at_least-few g x v (get_or x v 0) graph h)
 
 pub breach_below_top : (p : Profile) (g : GraphShape) (x : List ℕ) (v : ℕ) → IsGraph g → v < g.vertices → get_or x v 0 ≤ top_level p g.vertices → ¬ (MeetsUpper p g x v) → get_or x v 0 < top_level p g.vertices
-breach_below_top p g x v graph h capped breach = elim (cases_lt (get_or x v 0) (top_level p g.vertices)) [
-  | inl lt ↦ lt
-  | inr ge ↦ absurd (breach (top_meets_upper p g x v graph h (omega arith)))
-]
+breach_below_top p g x v graph h capped breach = grind (arith, nat_tests, top_meets_upper)
 
 -- the list that raising begins with
 pub raising_first : (p : Profile) (g : GraphShape) (x : List ℕ) → length x ≡ g.vertices → IsCapped p g.vertices x → IsRaising p g x x
@@ -43,14 +41,7 @@ raising_first p g x long capped = record { sized = long; from = λ v h. omega ar
 
 -- a level that breaks Upper in a list is left by every greater list that is raisable
 leaves : (p : Profile) (g : GraphShape) (x y z : List ℕ) (v : ℕ) → IsRaising p g x y → v < g.vertices → ¬ (MeetsUpper p g y v) → IsRaisable p g x z → get_or y v 0 < get_or z v 0
-leaves p g x y z v r h breach raisable = elim (cases_lt (get_or y v 0) (get_or z v 0)) [
-  | inl lt ↦ lt
-  | inr ge ↦
-      let same : get_or y v 0 ≡ get_or z v 0 = omega (arith, r.least z raisable v h) in
-      let more : at_least g y v (get_or z v 0) ≤ at_least g z v (get_or z v 0) = at_least-mono g y z v (get_or z v 0) r.sized (r.least z raisable) in
-      let meets : at_least g y v (get_or z v 0) ≤ high p (group_of p g.vertices (get_or z v 0)) = omega (arith, raisable.upper v h) in
-      absurd (breach (rw same meets))
-]
+leaves p g x y z v r h breach raisable = grind (arith, nat_tests, at_least-mono, r.least, r.sized, raisable.upper)
 
 -- a vertex that breaks Upper rises by one level
 pub raising_more : (p : Profile) (g : GraphShape) (x y : List ℕ) (v : ℕ) → IsGraph g → IsRaising p g x y → v < g.vertices → ¬ (MeetsUpper p g y v) → IsRaising p g x (set y v (get_or y v 0 + 1))
@@ -70,18 +61,7 @@ raising_many p g x y z graph r long moves = record {
   sized = long;
   from = λ v h. elim (moves v h) [ inl e ↦ omega (arith, r.from v h) | inr m ↦ omega (arith, m.0, r.from v h) ];
   capped = λ v h. elim (moves v h) [ inl e ↦ omega (arith, r.capped v h) | inr m ↦ omega (arith, m.0, breach_below_top p g y v graph h (r.capped v h) m.1) ];
-  least = λ w raisable v h. elim (moves v h) [
-    | inl e ↦ omega (arith, r.least w raisable v h)
-    | inr m ↦ omega (arith, m.0, leaves p g x y w v r h m.1 raisable)
-  ];
-}
-
-pub raising_then : (p : Profile) (g : GraphShape) (x y z : List ℕ) → IsRaising p g x y → IsRaising p g y z → IsRaising p g x z
-raising_then p g x y z r s = record {
-  sized = s.sized;
-  from = λ v h. omega (arith, r.from v h, s.from v h);
-  capped = s.capped;
-  least = λ w raisable. s.least w (record { sized = raisable.sized; from = r.least w raisable; capped = raisable.capped; upper = raisable.upper });
+  least = λ w raisable v h. grind (arith, nat_tests, leaves, r.least);
 }
 
 -- raising ends where no vertex breaks Upper

@@ -2,6 +2,7 @@
 use Rattle.std.proofs.Common.{ℕ, suc, zero, ◌≤◌, ◌<◌, ◌≡◌, inl, inr, leb, List, length, get_or, set, ◌∙◌, arith, subst}
 use Rattle.std.proofs.lemmas.List.{get_or_past, length-set, get_or-set_same}
 use Rattle.std.proofs.lemmas.Bool.{cases_lt, cases_eq, leb-true, le-leb}
+use Rattle.std.proofs.lemmas.Bool.Decides.{nat_tests}
 use Rattle.kc_graph.specs.Shape.{GraphShape, IsGraph, neighbours_of}
 use Rattle.kc_levels.specs.declared.profile.Profile.{Profile}
 use Rattle.kc_levels.specs.Thresholds.{high, group_of, top_level}
@@ -19,10 +20,7 @@ at_least-sets g y z v l more =
 
 -- past the end there is only level 0
 everywhere : (n l : ℕ) (y z : List ℕ) (w : ℕ) → length y ≡ n → ((v : ℕ) → v < n → l ≤ get_or y v 0 → l ≤ get_or z v 0) → l ≤ get_or y w 0 → l ≤ get_or z w 0
-everywhere n l y z w long more at = elim (cases_lt w n) [
-  | inl lt ↦ more w lt at
-  | inr ge ↦ let none : get_or y w 0 ≡ 0 = get_or_past y w 0 (omega arith) in omega arith
-]
+everywhere n l y z w long more at = grind (arith, nat_tests, get_or_past)
 
 swept_from : (p : Profile) (g : GraphShape) (x y : List ℕ) → IsCapped p g.vertices x → IsSwept p g x y → IsBelow g.vertices x y
 swept_from p g x y capped s v h = elim (cases_lt (get_or y v 0) (get_or x v 0)) [
@@ -92,15 +90,7 @@ raised_swept p g x y r = record {
           absurd (omega (arith, r.least (set y v l) wanted v h, same))
     ]
   ];
-  stays = λ v l h top climbs. elim climbs [
-    | inl old ↦ omega (arith, r.raisable.from v h)
-    | inr many ↦ elim (cases_eq (get_or y v 0) l) [
-      | inl e ↦
-          let meets : at_least g y v l ≤ high p (group_of p g.vertices l) = subst (λ k. at_least g y v k ≤ high p (group_of p g.vertices k)) e (r.raisable.upper v h) in
-          absurd (omega (arith, many.1, meets))
-      | inr ne ↦ omega (arith, many.0, ne)
-    ]
-  ];
+  stays = λ v l h top climbs. grind (arith, nat_tests, r.raisable.from, r.raisable.upper);
 }
 
 pub swept_is_raised : SweptIsRaised

@@ -1,7 +1,7 @@
 -- A table of low as it grows by one group at a time.
-use Rattle.std.proofs.Common.{ℕ, suc, zero, ◌+◌, ◌-◌, ◌^◌, ◌≤◌, ◌<◌, ◌≡◌, inl, inr, List, [], ◌∷◌, ◌++◌, length, get_or, refl, ap, sym, ◌∙◌, arith}
-use Rattle.std.proofs.lemmas.Bool.{cases_lt}
+use Rattle.std.proofs.Common.{ℕ, suc, zero, ◌+◌, ◌-◌, ◌^◌, ◌≤◌, ◌<◌, ◌≡◌, List, [], ◌∷◌, ◌++◌, length, get_or, refl, ap, ◌∙◌, arith}
 use Rattle.std.proofs.lemmas.List.{length_push, get_or_push, get_or_append_left}
+use Rattle.std.proofs.lemmas.Bool.Decides.{nat_tests}
 use Rattle.kc_graph.specs.declared.limits.TheConstants.{MAX_VERTICES}
 use Rattle.kc_levels.specs.declared.profile.Profile.{Profile}
 use Rattle.kc_levels.specs.Thresholds.{low, last_group, next_low, high_over}
@@ -45,27 +45,13 @@ low_table-more p n last next lows t more small is = record {
     longer = length_push lows next
 
     next_is : next ≡ low p (length lows)
-    next_is =
-        let place : length lows - 1 + 1 ≡ length lows = omega (arith, t.long) in
-        let step : low p (length lows - 1 + 1) ≡ next_low p (low p (length lows - 1)) = low-next p (length lows - 1) (omega (arith, t.long)) in
-        is ∙ ap (next_low p) t.last_is ∙ sym step ∙ ap (low p) place
+    next_is = grind (arith, nat_tests, low-next, t.long, t.last_is)
 
     at : (i : ℕ) → i < length (lows ++ next ∷ []) → get_or (lows ++ next ∷ []) i 0 ≡ low p i
-    at i h = elim (cases_lt i (length lows)) [
-      | inl lt ↦ get_or_append_left lows (next ∷ []) 0 i lt ∙ t.lows_are i lt
-      | inr ge ↦
-          let end : length lows ≡ i = omega (arith, longer) in
-          get_or_push lows next 0 i end ∙ next_is ∙ ap (low p) end
-    ]
+    at i h = grind (arith, nat_tests, get_or_append_left, longer, get_or_push, next_is, t.lows_are)
 
     above : (i : ℕ) → i + 2 < length (lows ++ next ∷ []) → high_over p (low p (1 + i)) < n - 1
-    above i h = elim (cases_lt (i + 2) (length lows)) [
-      | inl lt ↦ t.before i lt
-      | inr ge ↦
-          let place : 1 + i ≡ length lows - 1 = omega (arith, longer) in
-          let here : high_over p (low p (1 + i)) ≡ high_over p last = ap (high_over p) (ap (low p) place ∙ sym t.last_is) in
-          omega arith
-    ]
+    above i h = grind (arith, nat_tests, longer, t.before, t.last_is)
 
 pub low_table-end : (p : Profile) (n last : ℕ) (lows : List ℕ) → IsLowTable p n last lows → n - 1 ≤ high_over p last → length lows ≡ 1 + last_group p n
 low_table-end p n last lows t done =

@@ -10,16 +10,20 @@ pub record IsAlike (g h : GraphShape) (x y : List ℕ) (v : ℕ) : Type 0 where
   pub edges : (w : ℕ) → joined v w h.edges ≡ joined v w g.edges
   pub levels : (w : ℕ) → joined v w g.edges ≡ true → get_or y w 0 ≡ get_or x w 0
 
--- h with y lies between a with xa and b with xb
---
--- It has at least the edges and levels of a, and at most those of b. A vertex whose level differs in a and b is as in
--- one of them.
-pub record IsBetween (a b h : GraphShape) (xa xb y : List ℕ) : Type 0 where
+-- three graphs on the same vertices
+pub record ShareVertices (a b h : GraphShape) : Type 0 where
   pub lower : IsGraph a
   pub upper : IsGraph b
   pub middle : IsGraph h
   pub same_lower : a.vertices ≡ h.vertices
   pub same_upper : b.vertices ≡ h.vertices
+
+-- h with y lies between a with xa and b with xb
+--
+-- It has at least the edges and levels of a, and at most those of b. A vertex whose level differs in a and b is as in
+-- one of them.
+pub record IsBetween (a b h : GraphShape) (xa xb y : List ℕ) : Type 0 where
+  pub graphs : ShareVertices a b h
   pub sized : length y ≡ h.vertices
   pub above : (w : ℕ) → get_or xa w 0 ≤ get_or y w 0
   pub below : (w : ℕ) → get_or y w 0 ≤ get_or xb w 0

@@ -15,8 +15,8 @@ pub fn profile_two_begins()
     ensures { SecondProfileBegins }
 {}
 
-/// The estimate of a band is twice its lower bound, and its upper bound is at most three times the estimate, in profile
-/// 2 twice.
+/// The estimate of a band is twice its lower bound. Its upper bound is at most three times the estimate, and in profile
+/// 2 at most twice.
 pub fn estimate_is_near()
     ensures { EstimateIsNear }
 {}

@@ -1,8 +1,8 @@
 -- The lists of out-neighbours have together as many members as the graph has edges.
-use Rattle.std.proofs.Common.{ℕ, suc, zero, ◌+◌, ◌≤◌, ◌≡◌, ◌≢◌, inl, inr, cond, ltb, eqb, List, [], ◌∷◌, length, map, refl, ap, sym, ◌∙◌, arith, add-one}
+use Rattle.std.proofs.Common.{ℕ, suc, zero, ◌+◌, ◌≤◌, ◌≡◌, ◌≢◌, inl, inr, cond, ltb, eqb, List, [], ◌∷◌, length, map, refl, ap, ◌∙◌, arith, add-one, rules}
 use Rattle.std.specs.Prelude.{filter, sum_by}
 use Rattle.std.specs.List.{range_with_len}
-use Rattle.std.proofs.lemmas.Bool.{cases_eq, cases_lt, cases_Bool, eq-eqb, ne_eqb, lt-ltb}
+use Rattle.std.proofs.lemmas.Bool.{cases_lt, lt-ltb}
 use Rattle.std.proofs.lemmas.Bool.Decides.{nat_tests}
 use Rattle.std.proofs.lemmas.List.FromFn.{sum_by-map-range_with_len_more}
 use Rattle.kc_graph.specs.Shape.{GraphShape, Pair, EdgesFrom, IsGraph, neighbours_of}
@@ -20,37 +20,14 @@ arcs es x (suc k) = arcs es x k + length (filter (above x k) (neighbours_of k es
 -- what an edge adds at a vertex
 one_more : (e : Pair) (es : List Pair) (x : List ℕ) (k : ℕ) → e.0 ≢ e.1 →
     length (filter (above x k) (neighbours_of k (e ∷ es))) ≡ length (filter (above x k) (neighbours_of k es)) + cond (eqb e.0 k) (cond (above x e.0 e.1) 1 0) 0 + cond (eqb e.1 k) (cond (above x e.1 e.0) 1 0) 0
-one_more e es x k ne = elim (cases_eq e.0 k) [
-  | inl same ↦
-      let other : e.1 ≢ k = λ t. ne (same ∙ sym t) in
-      elim (cases_Bool (above x k e.1)) [
-        | inl up ↦ rw (eq-eqb e.0 k same, ne_eqb e.1 k other, up, ap (λ (a : ℕ). above x a e.1) same ∙ up) (omega arith)
-        | inr down ↦ rw (eq-eqb e.0 k same, ne_eqb e.1 k other, down, ap (λ (a : ℕ). above x a e.1) same ∙ down) (omega arith)
-      ]
-  | inr off ↦ elim (cases_eq e.1 k) [
-    | inl same ↦ elim (cases_Bool (above x k e.0)) [
-      | inl up ↦ rw (ne_eqb e.0 k off, eq-eqb e.1 k same, up, ap (λ (a : ℕ). above x a e.0) same ∙ up) (omega arith)
-      | inr down ↦ rw (ne_eqb e.0 k off, eq-eqb e.1 k same, down, ap (λ (a : ℕ). above x a e.0) same ∙ down) (omega arith)
-    ]
-    | inr away ↦ rw (ne_eqb e.0 k off, ne_eqb e.1 k away) (omega arith)
-  ]
-]
+one_more e es x k ne = grind (arith, nat_tests)
 
 -- what an edge adds at the vertices below k
 arcs-more : (e : Pair) (es : List Pair) (x : List ℕ) (k : ℕ) → e.0 ≢ e.1 →
     arcs (e ∷ es) x k ≡ arcs es x k + cond (ltb e.0 k) (cond (above x e.0 e.1) 1 0) 0 + cond (ltb e.1 k) (cond (above x e.1 e.0) 1 0) 0
 unfolding arcs
-arcs-more e es x zero ne = none e.0 e.1 _ _
-  where
-    none : (a b p q : ℕ) → 0 ≡ 0 + cond (ltb a 0) p 0 + cond (ltb b 0) q 0
-    none a b p q = grind (arith, nat_tests)
-arcs-more e es x (suc k) ne = omega (arith, arcs-more e es x k ne, one_more e es x k ne, step e.0 (cond (above x e.0 e.1) 1 0), step e.1 (cond (above x e.1 e.0) 1 0))
-  where
-    step : (a p : ℕ) → cond (ltb a (suc k)) p 0 ≡ cond (ltb a k) p 0 + cond (eqb a k) p 0
-    step a p = elim (cases_lt a k) [
-      | inl lt ↦ grind (arith, nat_tests, lt)
-      | inr ge ↦ elim (cases_eq a k) [ inl e ↦ grind (arith, nat_tests, e) | inr no_ ↦ grind (arith, nat_tests, ge, no_) ]
-    ]
+arcs-more e es x zero ne = search rules
+arcs-more e es x (suc k) ne = search (rules, arcs-more e es x k ne, one_more)
 
 arcs-none : (x : List ℕ) (k : ℕ) → arcs [] x k ≡ 0
 unfolding arcs
@@ -59,13 +36,7 @@ arcs-none x (suc k) = omega (arith, arcs-none x k)
 
 arcs-all : (n a b : ℕ) (es : List Pair) (x : List ℕ) → EdgesFrom n a b es → arcs es x n ≡ length es
 arcs-all n a b [] x from = arcs-none x n
-arcs-all n a b (e ∷ es) x from =
-    let apart : e.0 ≢ e.1 = λ same. absurd (omega (arith, from.1, same)) in
-    let later = arcs-all n e.0 (suc e.1) es x from.3 in
-    let once = above_one_way x e.0 e.1 apart in
-    let low = lt-ltb e.0 n (omega (arith, from.1, from.2)) in
-    let high = lt-ltb e.1 n from.2 in
-    arcs-more e es x n apart ∙ rw (low, high, once) (elim (cases_Bool (above x e.0 e.1)) [ inl up ↦ rw up (omega (arith, later)) | inr down ↦ rw down (omega (arith, later)) ])
+arcs-all n a b (e ∷ es) x from = grind (arith, nat_tests, arcs-all n e.0 (suc e.1) es x from.3, above_one_way, lt-ltb, arcs-more)
 
 arcs-rise : (es : List Pair) (x : List ℕ) (k m : ℕ) → k ≤ m → arcs es x k ≤ arcs es x m
 unfolding arcs

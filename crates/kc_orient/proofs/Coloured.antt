@@ -110,11 +110,6 @@ pub record IsColouringLevel (o : OrientationShape) (l next : ℕ) (colours marks
   pub here : (v : ℕ) → next ≡ suc v → get_or o.levels v 0 ≡ l
   pub coloured : IsColouredTo o l next colours marks
 
-pub level_first : (o : OrientationShape) (l next : ℕ) (firsts nexts colours marks : List ℕ) → AreLinked o.levels firsts nexts → l < length firsts → next ≡ get_or firsts l 0 → IsColouredTo o l (length o.levels) colours marks → IsColouringLevel o l next colours marks
-level_first o l next firsts nexts colours marks linked h at is =
-    let first = rw (← at) at (linked.first l h) in
-    record { within = first.within; here = first.here; coloured = coloured_skip o l (length o.levels) next colours marks first is }
-
 pub level_more : (o : OrientationShape) (l v next r : ℕ) (firsts nexts colours old new : List ℕ) → IsOriented o → AreLinked o.levels firsts nexts → next ≡ get_or nexts v 0 → IsColouringLevel o l (suc v) colours old →
     IsLeastFree (get_or o.outs v []) colours r → r ≤ length (get_or o.outs v []) → IsMarked (suc v) old new → IsColouringLevel o l next (set colours v r) new
 level_more o l v next r firsts nexts colours old new oriented linked at is free few stamped =

@@ -1,10 +1,11 @@
 -- Colourings: there is at most one, it is proper, and its colours are few.
-use Rattle.std.proofs.Common.{ℕ, suc, zero, ◌+◌, ◌≤◌, ◌<◌, ◌≡◌, inl, inr, true, List, [], ◌∷◌, length, get_or, refl, sym, ◌∙◌, arith}
-use Rattle.std.proofs.lemmas.Bool.{cases_lt, cases_Bool}
+use Rattle.std.proofs.Common.{ℕ, suc, zero, ◌+◌, ◌≤◌, ◌<◌, ◌≡◌, inl, inr, true, List, [], ◌∷◌, length, get_or, sym, ◌∙◌, arith}
+use Rattle.std.proofs.lemmas.Bool.{cases_lt}
 use Rattle.std.proofs.lemmas.List.{get_or_past}
 use Rattle.std.proofs.lemmas.Grind.{same_number_lists}
+use Rattle.std.proofs.lemmas.Bool.Decides.{nat_tests}
 use Rattle.kc_graph.specs.Numbers.{has_number}
-use Rattle.kc_graph.specs.Shape.{GraphShape, joined}
+use Rattle.kc_graph.specs.Shape.{GraphShape}
 use Rattle.kc_graph.proofs.lemmas.Edges.{joined_comm, joined_inside}
 use Rattle.kc_orient.specs.Shape.{above, orientation}
 use Rattle.kc_orient.specs.Colouring.{IsLeastFree, IsColouring}
@@ -70,13 +71,4 @@ colourings_are_one g x c d p q =
     same_number_lists c d (p.sized ∙ sym q.sized) (λ v h. same_at x outs c d (bounded x).0 (bounded x).1 (outs_above g x) p q (bounded x).0 (length outs) v (omega (arith, h, p.sized)) (omega arith) (omega arith))
 
 pub colouring_is_proper : ColouringIsProper
-colouring_is_proper g x c graph is v w near same = elim (cases_Bool (above x v w)) [
-  | inl up ↦ differ v w near up (sym same)
-  | inr down ↦ differ w v (joined_comm w v g.edges ∙ near) (above_one_way x v w (apart g v w graph near) ∙ rw down refl) same
-]
-  where
-    differ : (u t : ℕ) → joined u t g.edges ≡ true → above x u t ≡ true → get_or c t 0 ≡ get_or c u 0 → ⊥
-    differ u t edge up e =
-        let h : u < g.vertices = (joined_inside g.vertices 0 0 u t g.edges graph edge).0 in
-        let at : has_number t (get_or (orientation g x).outs u []) ≡ true = rw (outs_at g x u h) (has_number-out g x u t ∙ rw (up, edge) refl) in
-        (is.least u (omega (arith, h, outs_sized g x))).free t at e
+colouring_is_proper g x c graph is v w near same = grind (arith, nat_tests, joined_comm, above_one_way, apart, joined_inside, outs_at, has_number-out, outs_sized)

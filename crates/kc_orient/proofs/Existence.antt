@@ -2,7 +2,7 @@
 use Rattle.std.proofs.Common.{ℕ, suc, zero, ◌+◌, ◌≤◌, ◌<◌, ◌≡◌, inl, inr, Bool, true, false, eqb, ◌||◌, List, [], ◌∷◌, length, get_or, map, refl, ap, sym, ◌∙◌, arith}
 use Rattle.std.specs.Prelude.{not}
 use Rattle.std.specs.List.{range_with_len}
-use Rattle.std.proofs.lemmas.Bool.{cases_eq, cases_Bool, true≢false, eq-eqb}
+use Rattle.std.proofs.lemmas.Bool.{cases_eq, cases_Bool, true≢false, eq-eqb, not-true}
 use Rattle.std.proofs.lemmas.Bool.Decides.{nat_tests}
 use Rattle.std.proofs.lemmas.List.FromFn.{get_or-map-range_with_len, length-map-range_with_len}
 use Rattle.kc_graph.specs.Numbers.{has_number}
@@ -34,16 +34,9 @@ least_not ks = least (λ k. not (has_number k ks)) (suc (suc (total ks)))
 not_in : (k : ℕ) (ks : List ℕ) → total ks < k → has_number k ks ≡ false
 not_in k ks lt = elim (cases_Bool (has_number k ks)) [ inl at ↦ absurd (omega (arith, member-le k ks at)) | inr out ↦ out ]
 
-false_from_not : (b : Bool) → not b ≡ true → b ≡ false
-false_from_not true e = sym e
-false_from_not false e = refl
-
 least_not-out : (ks : List ℕ) → has_number (least_not ks) ks ≡ false
 unfolding least_not
-least_not-out ks =
-    let passes : not (has_number (suc (total ks)) ks) ≡ true = ap not (not_in (suc (total ks)) ks (omega arith)) in
-    let small = least-le (λ k. not (has_number k ks)) (suc (suc (total ks))) (suc (total ks)) passes in
-    false_from_not (has_number (least_not ks) ks) (least-passes (λ k. not (has_number k ks)) (suc (suc (total ks))) (omega (arith, small)))
+least_not-out ks = grind (arith, nat_tests, total, not_in, least-le, not-true, least-passes)
 
 least_not-least : (ks : List ℕ) (j : ℕ) → j < least_not ks → has_number j ks ≡ true
 unfolding least_not
@@ -128,9 +121,6 @@ has_colouring x outs up = (
   },
 )
   where
-    top : ℕ
-    top = (bounded x).0
-
     steps : ℕ
     steps = enough (length outs) (bounded x).0 (length outs)
 

@@ -1,12 +1,11 @@
 -- Marking the colours of a list of vertices, and the least colour that is not marked.
-use Rattle.std.proofs.Common.{ℕ, suc, ◌≤◌, ◌<◌, ◌≡◌, ◌≢◌, inl, inr, true, List, [], ◌∷◌, ◌++◌, length, get_or, take, set, refl, ap, sym, ◌∙◌, arith, add-one}
-use Rattle.std.proofs.lemmas.Bool.{cases_eq, true≢false}
+use Rattle.std.proofs.Common.{ℕ, suc, ◌≤◌, ◌<◌, ◌≡◌, ◌≢◌, inl, inr, true, List, [], ◌∷◌, ◌++◌, length, get_or, take, set, ap, sym, ◌∙◌, arith, add-one}
+use Rattle.std.proofs.lemmas.Bool.{cases_eq}
 use Rattle.std.proofs.lemmas.Bool.Decides.{nat_tests}
 use Rattle.std.proofs.lemmas.List.{get_or-set_same, get_or-set_other, take_more, take_all}
 use Rattle.std.proofs.Math.ListN.{length-set}
 use Rattle.kc_graph.specs.Numbers.{has_number}
 use Rattle.kc_graph.proofs.lemmas.Numbers.{has_number-push, has_number_at}
-use Rattle.kc_orient.specs.Colouring.{IsLeastFree}
 use Rattle.kc_orient.specs.private.Marks.{IsMarked}
 use Rattle.kc_orient.proofs.Pigeons.{pigeons}
 
@@ -15,13 +14,6 @@ pub record IsMarking (vertices colours : List ℕ) (stamp i : ℕ) (old new : Li
   pub marked : IsMarked stamp old new
   pub all : (w : ℕ) → has_number w (take i vertices) ≡ true → get_or new (get_or colours w 0) 0 ≡ stamp
   pub only : (k : ℕ) → k < length old → get_or new k 0 ≡ stamp → (w : ℕ) × (has_number w vertices ≡ true) × (get_or colours w 0 ≡ k)
-
-pub marking_first : (vertices colours : List ℕ) (stamp : ℕ) (old : List ℕ) → ((k : ℕ) → k < length old → get_or old k 0 ≢ stamp) → IsMarking vertices colours stamp 0 old old
-marking_first vertices colours stamp old fresh = record {
-  marked = record { sized = refl; each = λ k. inl refl };
-  all = λ w at. absurd (true≢false (sym at));
-  only = λ k h e. absurd (fresh k h e);
-}
 
 pub marking_more : (vertices colours : List ℕ) (stamp i w k : ℕ) (old new : List ℕ) → IsMarking vertices colours stamp i old new → i < length vertices → w ≡ get_or vertices i 0 → k ≡ get_or colours w 0 → k < length new → IsMarking vertices colours stamp (suc i) old (set new k stamp)
 marking_more vertices colours stamp i w k old new is h w_is k_is room = record {
@@ -68,10 +60,3 @@ marks_few vertices colours marks stamp k is le room below here = pigeons (λ w. 
   where
     each : (j : ℕ) → j < suc k → get_or marks j 0 ≡ stamp
     each j lt = elim (cases_eq j k) [ inl same ↦ rw same here | inr ne ↦ below j (omega (arith, ne)) ]
-
--- the first mark that is not the stamp
-pub least_unmarked : (vertices colours marks : List ℕ) (stamp k : ℕ) → IsMarkedAll vertices colours marks stamp → k ≤ length marks → ((j : ℕ) → j < k → get_or marks j 0 ≡ stamp) → get_or marks k 0 ≢ stamp → IsLeastFree vertices colours k
-least_unmarked vertices colours marks stamp k is le below here = record {
-  free = λ w at e. here (ap (λ (j : ℕ). get_or marks j 0) (sym e) ∙ is.all w at);
-  taken = λ j lt. is.only j (omega arith) (below j lt);
-}

@@ -8,10 +8,7 @@ use Rattle.kc_graph.proofs.lemmas.Numbers.{has_number-without}
 
 length-without-le : (a : ℕ) (ws : List ℕ) → length (without a ws) ≤ length ws
 length-without-le a [] = omega arith
-length-without-le a (w ∷ ws) = elim (cases_eq w a) [
-  | inl same ↦ rw (eq-eqb w a same) (omega (arith, length-without-le a ws))
-  | inr ne ↦ rw (ne_eqb w a ne) (omega (arith, length-without-le a ws))
-]
+length-without-le a (w ∷ ws) = grind (arith, nat_tests, length-without-le a ws, eq-eqb, ne_eqb)
 
 length-without : (a : ℕ) (ws : List ℕ) → has_number a ws ≡ true → length (without a ws) + 1 ≤ length ws
 length-without a [] at = absurd (true≢false (sym at))

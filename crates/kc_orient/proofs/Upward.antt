@@ -1,7 +1,7 @@
 -- The order of the vertices, and lists of out-neighbours.
-use Rattle.std.proofs.Common.{ℕ, ◌≤◌, ◌<◌, ◌≡◌, ◌≢◌, ◌⊎◌, inl, inr, Bool, true, false, ltb, leb, eqb, ◌&&◌, ◌||◌, List, [], ◌∷◌, length, get_or, refl, ap, sym, ◌∙◌, arith, subst}
+use Rattle.std.proofs.Common.{ℕ, ◌≤◌, ◌<◌, ◌≡◌, ◌≢◌, ◌⊎◌, inl, inr, Bool, true, false, ltb, leb, eqb, ◌&&◌, ◌||◌, List, [], ◌∷◌, length, get_or, refl, ap, sym, ◌∙◌, arith}
 use Rattle.std.specs.Prelude.{not, filter}
-use Rattle.std.proofs.lemmas.Bool.{cases_eq, cases_lt, cases_Bool, true≢false}
+use Rattle.std.proofs.lemmas.Bool.{cases_eq, cases_lt, cases_Bool, true≢false, and_parts}
 use Rattle.std.proofs.lemmas.Bool.Decides.{nat_tests}
 use Rattle.std.proofs.lemmas.List.{get_or_past}
 use Rattle.std.proofs.lemmas.List.FromFn.{get_or-map-range_with_len, length-map-range_with_len}
@@ -24,50 +24,17 @@ use Rattle.kc_orient.specs.Laws.{AboveIsAnOrder, IsWalk, NoCycle, OutNeighboursA
 -- the order
 
 pub above_one_way : (x : List ℕ) (v w : ℕ) → v ≢ w → above x w v ≡ not (above x v w)
-above_one_way x v w ne = plain (get_or x v 0) (get_or x w 0)
-  where
-    plain : (a b : ℕ) → ltb b a || (eqb b a && ltb w v) ≡ not (ltb a b || (eqb a b && ltb v w))
-    plain a b = elim (cases_lt a b) [
-      | inl lt ↦ grind (arith, nat_tests, lt)
-      | inr ge ↦ elim (cases_eq a b) [
-        | inl e ↦ elim (cases_lt v w) [ inl l ↦ grind (arith, nat_tests, e, l) | inr g ↦ grind (arith, nat_tests, e, g, ne) ]
-        | inr no_ ↦ grind (arith, nat_tests, ge, no_)
-      ]
-    ]
+above_one_way x v w ne = grind (arith, nat_tests)
 
 pub above_itself : (x : List ℕ) (v : ℕ) → above x v v ≡ false
-above_itself x v = plain (get_or x v 0)
-  where
-    plain : (a : ℕ) → ltb a a || (eqb a a && ltb v v) ≡ false
-    plain a = grind (arith, nat_tests)
+above_itself x v = grind (arith, nat_tests)
 
 -- w is on a greater level, or on the same one and greater
 pub above_is : (x : List ℕ) (v w : ℕ) → above x v w ≡ true → (get_or x v 0 < get_or x w 0) ⊎ ((get_or x v 0 ≡ get_or x w 0) × (v < w))
-above_is x v w up = plain (get_or x v 0) (get_or x w 0) up
-  where
-    plain : (a b : ℕ) → ltb a b || (eqb a b && ltb v w) ≡ true → (a < b) ⊎ ((a ≡ b) × (v < w))
-    plain a b up = elim (cases_lt a b) [
-      | inl lt ↦ inl lt
-      | inr ge ↦ elim (cases_eq a b) [
-        | inl e ↦ elim (cases_lt v w) [ inl l ↦ inr (e, l) | inr g ↦ absurd (true≢false (sym up ∙ grind (arith, nat_tests, ge, g))) ]
-        | inr no_ ↦ absurd (true≢false (sym up ∙ grind (arith, nat_tests, ge, no_)))
-      ]
-    ]
-
-pub is_above : (x : List ℕ) (v w : ℕ) → (get_or x v 0 < get_or x w 0) ⊎ ((get_or x v 0 ≡ get_or x w 0) × (v < w)) → above x v w ≡ true
-is_above x v w up = plain (get_or x v 0) (get_or x w 0) up
-  where
-    plain : (a b : ℕ) → (a < b) ⊎ ((a ≡ b) × (v < w)) → ltb a b || (eqb a b && ltb v w) ≡ true
-    plain a b up = elim up [
-      | inl lt ↦ grind (arith, nat_tests, lt)
-      | inr same ↦ let e = same.0 in let l = same.1 in grind (arith, nat_tests, e, l)
-    ]
+above_is x v w up = grind (arith, nat_tests)
 
 pub above_onward : (x : List ℕ) (u v w : ℕ) → above x u v ≡ true → above x v w ≡ true → above x u w ≡ true
-above_onward x u v w first second = is_above x u w (elim (above_is x u v first) [
-  | inl lt ↦ inl (elim (above_is x v w second) [ inl more ↦ omega (arith, lt, more) | inr same ↦ omega (arith, lt, same.0) ])
-  | inr here ↦ elim (above_is x v w second) [ inl more ↦ inl (omega (arith, here.0, more)) | inr same ↦ inr (here.0 ∙ same.0, omega (arith, here.1, same.1)) ]
-])
+above_onward x u v w first second = grind (arith, nat_tests)
 
 pub above_is_an_order : AboveIsAnOrder
 above_is_an_order = record { one_way = above_one_way; never_itself = above_itself; onward = above_onward }
@@ -76,40 +43,22 @@ above_is_an_order = record { one_way = above_one_way; never_itself = above_itsel
 
 pub has_number-filter : (w : ℕ) (p : ℕ → Bool) (xs : List ℕ) → has_number w (filter p xs) ≡ (p w && has_number w xs)
 has_number-filter w p [] = elim (cases_Bool (p w)) [ inl passes ↦ rw passes refl | inr fails ↦ rw fails refl ]
-has_number-filter w p (y ∷ ys) = let later = has_number-filter w p ys in elim (cases_eq y w) [
-  | inl same ↦ elim (cases_Bool (p y)) [
-    | inl passes ↦ let at = ap p (sym same) ∙ passes in grind (arith, nat_tests, passes, at, same)
-    | inr fails ↦ let at = ap p (sym same) ∙ fails in grind (arith, nat_tests, fails, at, same, later)
-  ]
-  | inr ne ↦ elim (cases_Bool (p y)) [
-    | inl passes ↦ grind (arith, nat_tests, passes, ne, later)
-    | inr fails ↦ grind (arith, nat_tests, fails, ne, later)
-  ]
-]
+has_number-filter w p (y ∷ ys) = grind (arith, nat_tests, has_number-filter w p ys)
 
 pub has_number-out : (g : GraphShape) (x : List ℕ) (v w : ℕ) → has_number w (out_neighbours g x v) ≡ (above x v w && joined v w g.edges)
 has_number-out g x v w = has_number-filter w (above x v) (neighbours_of v g.edges) ∙ ap (λ b. above x v w && b) (has_number-neighbours_of v w g.edges)
 
-both_true : (a b : Bool) → (a && b) ≡ true → (a ≡ true) × (b ≡ true)
-both_true true true e = (refl, refl)
-both_true true false e = absurd (true≢false (sym e))
-both_true false b e = absurd (true≢false (sym e))
-
 pub out_above : (g : GraphShape) (x : List ℕ) (v w : ℕ) → has_number w (out_neighbours g x v) ≡ true → above x v w ≡ true
-out_above g x v w at = (both_true _ _ (sym (has_number-out g x v w) ∙ at)).0
+out_above g x v w at = (and_parts _ _ (sym (has_number-out g x v w) ∙ at)).0
 
 pub out_joined : (g : GraphShape) (x : List ℕ) (v w : ℕ) → has_number w (out_neighbours g x v) ≡ true → joined v w g.edges ≡ true
-out_joined g x v w at = (both_true _ _ (sym (has_number-out g x v w) ∙ at)).1
+out_joined g x v w at = (and_parts _ _ (sym (has_number-out g x v w) ∙ at)).1
 
 pub apart : (g : GraphShape) (v w : ℕ) → IsGraph g → joined v w g.edges ≡ true → v ≢ w
 apart g v w graph near same = true≢false (sym near ∙ ap (λ u. joined v u g.edges) (sym same) ∙ joined_itself g.vertices 0 0 v g.edges graph)
 
 pub edge_once : (g : GraphShape) (x : List ℕ) (v w : ℕ) → IsGraph g → joined v w g.edges ≡ true → has_number v (out_neighbours g x w) ≡ not (has_number w (out_neighbours g x v))
-edge_once g x v w graph near = rw (has_number-out g x w v, has_number-out g x v w, joined_comm w v g.edges, near, above_one_way x v w (apart g v w graph near)) (plain (above x v w))
-  where
-    plain : (b : Bool) → (not b && true) ≡ not (b && true)
-    plain true = refl
-    plain false = refl
+edge_once g x v w graph near = grind (arith, nat_tests, has_number-out, joined_comm, above_one_way, apart)
 
 walk_above : (g : GraphShape) (x : List ℕ) (v : ℕ) (ws : List ℕ) → IsWalk g x v ws → (u : ℕ) → has_number u ws ≡ true → above x v u ≡ true
 walk_above g x v [] walk u at = absurd (true≢false (sym at))
@@ -154,10 +103,7 @@ pub record LeadUpward (levels : List ℕ) (outs : List (List ℕ)) : Type 0 wher
   pub upward : (v w : ℕ) → has_number w (get_or outs v []) ≡ true → above levels v w ≡ true
 
 in_range : (g : GraphShape) (x : List ℕ) (v : ℕ) (P : List ℕ → Type 0) → P [] → P (out_neighbours g x v) → P (get_or (orientation g x).outs v [])
-in_range g x v P none some = elim (cases_lt v g.vertices) [
-  | inl h ↦ subst P (sym (outs_at g x v h)) some
-  | inr past ↦ subst P (sym (get_or_past (orientation g x).outs v [] (omega (arith, outs_sized g x, past)))) none
-]
+in_range g x v P none some = grind (arith, nat_tests, outs_at, get_or_past, outs_sized)
 
 pub outs_above : (g : GraphShape) (x : List ℕ) (v w : ℕ) → has_number w (get_or (orientation g x).outs v []) ≡ true → above x v w ≡ true
 outs_above g x v w at = in_range g x v (λ (ws : List ℕ). has_number w ws ≡ true → above x v w ≡ true) (λ none. absurd (true≢false (sym none))) (out_above g x v w) at
@@ -170,10 +116,7 @@ leads_upward g x graph = record {
 
 below_filter : (n : ℕ) (p : ℕ → Bool) (xs : List ℕ) → AllBelow n xs → AllBelow n (filter p xs)
 below_filter n p [] all = tt
-below_filter n p (y ∷ ys) all = elim (cases_Bool (p y)) [
-  | inl passes ↦ rw passes (all.0, below_filter n p ys all.1)
-  | inr fails ↦ rw fails (below_filter n p ys all.1)
-]
+below_filter n p (y ∷ ys) all = grind (arith, nat_tests, below_filter n p ys all.1)
 
 pub is_oriented : (g : GraphShape) (x : List ℕ) → IsGraph g → length x ≡ g.vertices → g.vertices ≤ MAX_VERTICES → IsOriented (orientation g x)
 is_oriented g x graph sized small = record {

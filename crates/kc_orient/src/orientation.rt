@@ -31,15 +31,15 @@ impl Model for Orientation {
     ghost invariant = { λ o. IsKept o.levels o.starts.items o.heads.items };
 }
 
-/// Returns whether w is above v: on a greater level, or on the same level with the greater number.
-pub(crate) fn is_above(levels: &[u16], v: u32, w: u32) -> bool
-    requires v { v < length levels.now }
-    requires w { w < length levels.now }
-    ensures { result ≡ above levels.now v w }
+/// Returns whether an edge between two vertices leads from `from` to `to`, since `to` is above `from`.
+pub(crate) fn leads(levels: &[u16], from: u32, to: u32) -> bool
+    requires from { from < length levels.now }
+    requires to { to < length levels.now }
+    ensures { result ≡ above levels.now from to }
 {
-    let from = levels[v as usize];
-    let to = levels[w as usize];
-    from < to || from == to && v < w
+    let low = levels[from as usize];
+    let high = levels[to as usize];
+    low < high || low == high && from < to
 }
 
 impl Orientation {
@@ -66,7 +66,7 @@ impl Orientation {
         requires w { w < length self.now.levels }
         ensures { result ≡ above self.now.levels v w }
     {
-        is_above(self.levels.as_slice(), v, w)
+        leads(self.levels.as_slice(), v, w)
     }
 
     // Returns the number of vertices.

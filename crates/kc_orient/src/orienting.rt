@@ -2,7 +2,7 @@
 ghost use Rattle.std.specs.Prelude.{◌≡◌, ℕ, ◌<◌, ◌++◌, All, IfOk, OnOk, filter, length};
 ghost use Rattle.kc_orient.specs.Shape.{above, orientation};
 
-use crate::orientation::{Orientation, is_above};
+use crate::orientation::{Orientation, leads};
 use kc_graph::Graph;
 use kc_levels::Levels;
 use std::alloc::{AllocError, Global};
@@ -19,7 +19,7 @@ fn push_above(
     ensures { OnOk result (list.new.items ≡ list.old.items ++ filter (above levels.now v) vertices.now) }
 {
     for w in vertices {
-        if is_above(levels, v, *w) {
+        if leads(levels, v, *w) {
             list.push(*w)?;
         }
     }
@@ -29,7 +29,7 @@ fn push_above(
 /// Returns the orientation of the graph by the levels (`orientation`). Each edge leads to the end that is above the
 /// other: on a greater level, or on the same level with the greater number.
 ///
-/// The list has a level for each vertex, and any levels are allowed. Costs one pass over the vertices and their
+/// `levels` has a level for each vertex; any levels are allowed. Costs one pass over the vertices and their
 /// neighbours. Takes memory for a number an edge, and a number and a level a vertex. Fails only if memory runs out.
 pub fn orient(alloc: Global, graph: &Graph, levels: &Levels) -> Result<Orientation, AllocError>
     requires { length levels.now ≡ graph.now.vertices }

@@ -3,4 +3,3 @@ mod LineLemmas
 mod ReaderLemmas
 mod TextLemmas
 mod VertexLemmas
-mod WordLemmas

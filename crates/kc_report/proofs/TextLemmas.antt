@@ -5,13 +5,14 @@ use Rattle.std.specs.List.{join_with_byte, flat_map}
 use Rattle.std.specs.Io.KnownBytes.{append_known}
 use Rattle.std.proofs.lemmas.List.{append-nil}
 use Rattle.std.proofs.lemmas.List.Elements.{All-cons, All-nil}
+use Rattle.kc_text.specs.Printing.{printed_line}
 use Rattle.kc_text.specs.Writing.{IsPrefix}
 use Rattle.kc_text.proofs.lemmas.Writing.{append_twice, prefix_longer, prefix_then}
 use Rattle.kc_history.specs.declared.entries.Entry.{Entry}
 use Rattle.kc_levels.specs.declared.moves.Move.{Move}
 use Rattle.kc_groups.specs.declared.plans.PhasePlan.{PhasePlan}
 use Rattle.kc_groups.specs.WellFormed.{IsWellFormed}
-use Rattle.kc_report.specs.Lines.{line_of, direction_word, phase_line, member_word, label_word, group_line}
+use Rattle.kc_report.specs.Lines.{direction_word, phase_line, member_word, label_word, group_line}
 
 -- the texts of a list, split after the one at place i
 record IsSplit {A : Type 0} (f : A → List ℕ) (xs : List A) (i : ℕ) (d : A) : Type 0 where
@@ -77,14 +78,14 @@ group_regrouped : (p b l m s e : List ℕ) → (((((p ++ s) ++ b) ++ s) ++ l) ++
 group_regrouped p b l m s e = simp append_assoc
 
 phase_parts : (phase quiet : ℕ) (direction old a word b : List ℕ) → old ≡ [] → a ≡ (old ++ codes "phase ") ++ decimal phase → word ≡ (codes " " ++ direction) ++ codes " quiet " → b ≡ (a ++ word) ++ decimal quiet
-    → b ++ 10 ∷ [] ≡ line_of (codes "phase" ∷ decimal phase ∷ direction ∷ codes "quiet" ∷ decimal quiet ∷ [])
+    → b ++ 10 ∷ [] ≡ printed_line (codes "phase" ∷ decimal phase ∷ direction ∷ codes "quiet" ∷ decimal quiet ∷ [])
 phase_parts phase quiet direction old a word b z ea ew eb = rw (eb, ew, ea, z) (phase_regrouped (codes "phase") (decimal phase) direction (codes "quiet") (decimal quiet) (32 ∷ []) (10 ∷ []))
 
 pub phase_filled : (plan : PhasePlan) (quiet : ℕ) (old a word b : List ℕ) → old ≡ [] → quiet ≡ length plan.quiet.edges → a ≡ (old ++ codes "phase ") ++ decimal plan.quiet.phase
     → word ≡ (codes " " ++ direction_word plan.quiet.add) ++ codes " quiet " → b ≡ (a ++ word) ++ decimal quiet → b ++ 10 ∷ [] ≡ phase_line plan
 phase_filled plan quiet old a word b z eq ea ew eb =
     phase_parts plan.quiet.phase quiet (direction_word plan.quiet.add) old a word b z ea ew eb
-    ∙ ap (λ (n : ℕ). line_of (codes "phase" ∷ decimal plan.quiet.phase ∷ direction_word plan.quiet.add ∷ codes "quiet" ∷ decimal n ∷ [])) eq
+    ∙ ap (λ (n : ℕ). printed_line (codes "phase" ∷ decimal plan.quiet.phase ∷ direction_word plan.quiet.add ∷ codes "quiet" ∷ decimal n ∷ [])) eq
 
 group_parts : (phase label : ℕ) (members words old a b d : List ℕ) → old ≡ [] → a ≡ (old ++ codes "group ") ++ decimal phase → b ≡ (a ++ codes " ") ++ decimal label → d ≡ b ++ members → words ≡ decimal label ++ members
     → d ++ 10 ∷ [] ≡ (codes "group" ++ 32 ∷ (decimal phase ++ 32 ∷ words)) ++ 10 ∷ []

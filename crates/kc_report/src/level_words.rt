@@ -1,12 +1,11 @@
 //! The words of vertex lines that a level decides. They are composed once for each level.
-ghost use Rattle.std.specs.Prelude.{◌≡◌, ℕ, ◌<◌, ◌≤◌, ◌++◌, [], IfOk, OnOk, length, slice_index, get_or, decimal, codes};
+ghost use Rattle.std.specs.Prelude.{◌≡◌, ℕ, ◌<◌, ◌≤◌, ◌++◌, IfOk, OnOk, length, slice_index, decimal, codes};
 ghost use Rattle.kc_levels.specs.Thresholds.{top_level};
 ghost use Rattle.kc_report.specs.private.LevelWords.{level_words, AreLevelWords};
 
 use kc_levels::{Estimate, Thresholds};
 use kc_text::LineBuf;
 use std::alloc::{AllocError, Global};
-use std::marker::Model;
 
 /// Appends the words of a vertex line for the level and its estimate.
 pub fn fill_bounds(buf: &mut LineBuf, level: u16, estimate: Estimate) -> Result<(), AllocError>
@@ -30,22 +29,6 @@ fn fill_level(buf: &mut LineBuf, level: u16, estimate: Estimate) -> Result<(), A
     buf.put(b" up ")
 }
 
-/// The words of a vertex line from its level to the name of its first count, for each level from 0 to a greatest one.
-/// Contracts see the list of them.
-#[derive(Drop)]
-pub struct LevelWords {
-    // The words of each level.
-    words: Vec<LineBuf>,
-}
-
-impl Model for LevelWords {
-    ghost use Rattle.std.specs.Prelude.{List, ℕ};
-
-    ghost Value = { List (List ℕ) };
-
-    ghost view = { λ w. w.words.items };
-}
-
 // Composes the words of further levels, up to those of `level`.
 fn compose_up_to(
     alloc: Global,
@@ -67,28 +50,23 @@ fn compose_up_to(
     Ok(())
 }
 
-impl LevelWords {
-    /// Composes the words of each level from 0 to the greatest of the list. Each level of the list is at most the top.
-    ///
-    /// Takes memory for some 100 bytes a level, and time for that and for one pass over the list. Fails only if memory
-    /// runs out.
-    pub fn new(alloc: Global, th: &Thresholds, levels: &[u16]) -> Result<LevelWords, AllocError>
-        requires { (v : ℕ) → v < length levels.now → slice_index levels.now v ≤ top_level th.now.profile th.now.vertices }
-        ensures words { IfOk result (λ w. AreLevelWords th.now.profile th.now.vertices w) }
-        ensures enough { IfOk result (λ w. (v : ℕ) → v < length levels.now → slice_index levels.now v < length w) }
-    {
-        let mut words = Vec::new(alloc);
-        for level in levels {
-            compose_up_to(alloc, &mut words, th, *level)?;
-        }
-        Ok(LevelWords { words })
+/// Composes the words of each level from 0 to the greatest of the list. They are those of a vertex line from its level
+/// to the name of its first count. Each level of the list is at most the top.
+///
+/// Takes memory for some 100 bytes a level, and time for that and for one pass over the list. Fails only if memory
+/// runs out.
+pub fn compose_words(
+    alloc: Global,
+    th: &Thresholds,
+    levels: &[u16],
+) -> Result<Vec<LineBuf>, AllocError>
+    requires { (v : ℕ) → v < length levels.now → slice_index levels.now v ≤ top_level th.now.profile th.now.vertices }
+    ensures words { IfOk result (λ w. AreLevelWords th.now.profile th.now.vertices w.items) }
+    ensures enough { IfOk result (λ w. (v : ℕ) → v < length levels.now → slice_index levels.now v < length w.items) }
+{
+    let mut words = Vec::new(alloc);
+    for level in levels {
+        compose_up_to(alloc, &mut words, th, *level)?;
     }
-
-    /// Returns the words of a level.
-    pub(crate) fn of(&self, level: u16) -> &[u8]
-        requires { level < length self.now }
-        ensures { result.now ≡ get_or self.now level [] }
-    {
-        self.words[level as usize].as_bytes()
-    }
+    Ok(words)
 }

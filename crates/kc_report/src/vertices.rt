@@ -8,7 +8,7 @@ ghost use Rattle.kc_report.specs.VertexLines.{AreLevels, GivesCounts, tail_text}
 ghost use Rattle.kc_report.specs.private.LevelWords.{counted_line, AreLevelWords};
 
 use crate::head::put_end;
-use crate::level_words::{LevelWords, fill_bounds};
+use crate::level_words::{compose_words, fill_bounds};
 use kc_graph::Graph;
 use kc_levels::{Estimate, Thresholds};
 use kc_text::{LineBuf, SendFault, Sink};
@@ -66,17 +66,13 @@ pub fn write_vertex<K: Sink>(
     buf.send_to(sink)
 }
 
-fn fill_counts(
-    buf: &mut LineBuf,
-    words: &LevelWords,
-    counts: VertexCounts,
-) -> Result<(), AllocError>
+fn fill_counts(buf: &mut LineBuf, words: &[LineBuf], counts: VertexCounts) -> Result<(), AllocError>
     requires { counts.level < length words.now }
     ensures { (p : Profile) (n : ℕ) → AreLevelWords p n words.now → OnOk result (buf.new ++ 10 ∷ [] ≡ counted_line p n counts) }
 {
     buf.clear();
     buf.put_named(b"vertex ", counts.v)?;
-    buf.put(words.of(counts.level))?;
+    buf.put(words[counts.level as usize].as_bytes())?;
     buf.put_number(counts.up)?;
     buf.put_named(b" down ", counts.down)
 }
@@ -89,7 +85,7 @@ fn fill_counts(
 pub fn write_counts<K: Sink>(
     buf: &mut LineBuf,
     sink: &mut K,
-    words: &LevelWords,
+    words: &[LineBuf],
     counts: VertexCounts,
 ) -> Result<(), SendFault>
     requires { counts.level < length words.now }
@@ -124,7 +120,7 @@ pub fn write_level_tail<K: Sink, F: Fn(u32) -> (u32, u32)>(
     ensures buffer { IsCleared buf.new result }
     ensures cause { WriteCause (K.faults sink.old) (K.faults sink.new) result }
 {
-    let words = LevelWords::new(alloc, th, levels)?;
+    let words = compose_words(alloc, th, levels)?;
     for v in 0..graph.vertices() {
         let (up, down) = counts(v);
         let level = levels[v as usize];

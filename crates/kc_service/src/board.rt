@@ -10,10 +10,10 @@ use kc_store::{Store, Writer};
 use std::alloc::{AllocError, Global};
 use std::sync::Arc;
 
-/// The part that a service and its readers share: the levels that are shown, and the bounds of coreness for each level.
+/// The levels that a service shows to its readers, and the bounds of coreness that each level stands for.
 #[derive(Drop)]
 pub struct Board {
-    /// The levels that are shown.
+    /// The levels that readers look up.
     pub store: Store,
     /// The profile of the levels' thresholds.
     pub profile: Profile,

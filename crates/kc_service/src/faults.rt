@@ -7,7 +7,7 @@ use kc_engine::EngineFault;
 use std::alloc::AllocError;
 use thiserror::Error;
 
-/// The reasons for which a service wasn't opened.
+/// Why a service wasn't opened.
 #[derive(Debug, Drop, Error)]
 pub enum OpenFault {
     /// The number of vertices is 0 or above `MAX_VERTICES`.
@@ -24,7 +24,7 @@ pub enum OpenFault {
     Memory(AllocError),
 }
 
-/// The reasons for which a batch wasn't applied.
+/// Why a batch wasn't applied.
 #[derive(Debug, Drop, Error)]
 pub enum ApplyFault {
     /// An earlier batch ran out of memory while it was applied. Readers still answer, from the state before that batch.
@@ -33,7 +33,7 @@ pub enum ApplyFault {
     /// The batch has this number of items, more than `MAX_ITEMS`.
     #[error("{items} items are too many for a batch")]
     TooMany { items: usize },
-    /// A vertex of the item at this index isn't a vertex of the graph. The vertices of all items before it are.
+    /// A vertex of the item at this index isn't a vertex of the graph. It is the first such item.
     #[error("a vertex of item {item} is out of range")]
     OutOfRange { item: usize },
     /// The graph would have this many edges, more than the edge limit.
@@ -64,7 +64,7 @@ pub(crate) fn fault_of(fault: EngineFault) -> ApplyFault
 #[error("the service has halted")]
 pub struct Halted;
 
-/// The reasons for which there is no coreness.
+/// Why there is no coreness.
 #[derive(Debug, Drop, Error)]
 pub enum CorenessFault {
     /// The service has halted.
@@ -75,7 +75,7 @@ pub enum CorenessFault {
     Memory(AllocError),
 }
 
-/// The reasons for which a certificate wasn't written whole.
+/// Why a certificate wasn't written whole.
 #[derive(Debug, Drop, Error)]
 pub enum CertificateFault {
     /// The service has halted, and nothing was written.

@@ -1,10 +1,16 @@
-//! A service: a graph with levels that batches change, and readers in threads of their own that ask for levels
-//! meanwhile.
+//! A service that bounds the coreness of each vertex of a graph while batches of items change the graph.
 //!
-//! [`Service::open`] takes [`Options`]. [`Service::apply`] applies a batch of items whole, or refuses it with a cause
-//! and changes nothing. [`Service::reader`] returns a [`Reader`], which any thread may own. [`Reader::level`] and
-//! [`Reader::bounds`] answer while batches are applied. No call asks its caller for a proof: arguments that could be
-//! wrong are tested at run time.
+//! Each vertex has a level, a small number that stands for bounds of its coreness ([`Bounds`]). A batch changes the
+//! graph and the levels. Readers in threads of their own look up levels and bounds meanwhile.
+//!
+//! - [`Service::open`] opens a service with [`Options`].
+//! - [`Service::apply`] applies a batch of items whole, or refuses it with a cause and changes nothing.
+//! - [`Service::reader`] returns a [`Reader`], which any thread may own.
+//! - [`Reader::level`] and [`Reader::bounds`] answer while batches are applied.
+//! - [`Service::coreness`] computes the coreness of each vertex exactly, and [`Service::certificate`] writes a text
+//!   from which anyone can check the levels.
+//!
+//! No call asks its caller for a proof: arguments that could be wrong are tested at run time.
 //!
 //! ```text
 //! let mut service = Service::open(&rt, rt.alloc(), Options::for_vertices(5))?;
@@ -13,7 +19,8 @@
 //! let bounds = reader.bounds(1);
 //! ```
 //!
-//! `specs/` has the definitions: `Services` for the changes of a service, `Readers` for the answers of a reader.
+//! The program `tour` has three batches and two readers in threads of their own. `specs/` has the definitions:
+//! `Services` for the changes of a service, `Readers` for the answers of a reader.
 #![tactic(auto)]
 
 mod applied;

@@ -1,6 +1,5 @@
 //! The options with which a service is opened.
-ghost use Rattle.std.specs.Prelude.{◌≡◌};
-ghost use Rattle.std.specs.Prelude.{OnOk, IfErr};
+ghost use Rattle.std.specs.Prelude.{◌≡◌, OnOk, IfErr};
 ghost use Rattle.kc_graph.specs.declared.limits.TheConstants.{MAX_EDGES};
 ghost use Rattle.kc_service.specs.Opening.{IsInRange, RangeCause};
 ghost use Rattle.kc_levels.specs.declared.profile.Profile.TheVariants.{One};
@@ -15,13 +14,13 @@ pub const MAX_WORKERS: u32 = 64;
 /// The options with which a service is opened. [`Options::for_vertices`] has the usual numbers.
 #[derive(Clone, Copy, Debug, PartialEq, Eq)]
 pub struct Options {
-    /// The number of vertices, 1 to `MAX_VERTICES`. The vertices are 0 to this number less 1.
+    /// The number of vertices, 1 to `MAX_VERTICES`. They are numbered from 0.
     pub vertices: u32,
-    /// The profile of the levels' thresholds: `One` is coarser and cheaper, `Two` finer.
+    /// The profile of the levels' thresholds: `One` is cheaper, and `Two` has closer bounds.
     pub profile: Profile,
     /// The most threads that a batch may use, 1 to `MAX_WORKERS`. No answer depends on this number.
     pub workers: u32,
-    /// The most edges that the graph may have, 0 to `MAX_EDGES`.
+    /// The most edges that the graph may have after a batch, 0 to `MAX_EDGES`.
     pub edge_limit: u32,
 }
 

@@ -10,7 +10,7 @@ use std::alloc::Global;
 use std::marker::Model;
 use std::sync::Arc;
 
-/// The answer to one reading of a vertex.
+/// The level of a vertex, and the bounds and the estimate of its coreness that the level stands for.
 #[derive(Clone, Copy, Debug, PartialEq, Eq)]
 pub struct Bounds {
     /// The vertex's level.
@@ -23,7 +23,8 @@ pub struct Bounds {
     pub high: u32,
 }
 
-/// Reads the levels of a service while batches are applied. Any thread may own a reader, and it outlives its service.
+/// Reads the levels of a service while batches are applied. Any thread may own a reader, and it may outlive its
+/// service.
 ///
 /// Contracts see a `ReaderView`: the table of levels that it reads, the profile and the number of vertices. They also
 /// see the part of the history that it has seen, and how long the history was when the reader was made. The part seen
@@ -56,8 +57,10 @@ impl Reader {
         self.board.store.vertices()
     }
 
-    /// Returns the level of `v`, or `None` if there is no such vertex. It is the level at a point of the history that
-    /// isn't before the part that the reader had seen. Afterwards the reader has seen the history up to that point.
+    /// Returns the level of `v`, or `None` if there is no such vertex.
+    ///
+    /// It is the level at a point of the history, at or after the part that the reader had seen. Afterwards the reader
+    /// has seen the history up to that point.
     ///
     /// Never waits and takes no memory. Cost: one to three loads.
     pub fn level(&mut self, v: u32) -> Option<u16>
@@ -95,7 +98,7 @@ impl Reader {
         })
     }
 
-    /// Ends the reader, and returns the pass that it read with.
+    /// Ends the reader, and returns its pass, for a program that goes on with the crates below (`Service::into_parts`).
     pub fn into_pass(self) -> Pass
         ensures { result ≡ record { table = self.table; seen = self.seen; made = self.made } }
     {

@@ -32,11 +32,11 @@ use std::marker::Model;
 use std::sync::Arc;
 use std::thread::Threads;
 
-/// A graph with levels that batches change, one after another, and that readers look up meanwhile.
+/// A graph that batches change, one after another, with a level for each vertex that readers look up meanwhile.
 ///
 /// Contracts see a `ServiceView`: the table that shows its levels, the number of vertices, the edge limit, and whether
 /// it has halted. They also see its state, which is profile, graph, levels and number of phases, and the history that
-/// readers see. Unless it has halted, both invariants hold, and the history leads to the state.
+/// readers see. Unless it has halted, both invariants of levels hold, and the history leads to the state.
 ///
 /// Besides the graph it takes 49 bytes a vertex.
 #[derive(Drop)]
@@ -45,7 +45,7 @@ pub struct Service<'a, R> {
     rt: &'a R,
     alloc: Global,
     engine: Engine,
-    // The part shared with the readers.
+    // The store and the thresholds, which the readers share.
     board: Arc<Board, Global>,
     // The writer of the board's store.
     writer: Writer,
@@ -80,8 +80,9 @@ pub struct Parts {
 impl<'a, R: Threads + Sync> Service<'a, R> {
     /// Opens a service without edges, each vertex on level 0 (`opened`).
     ///
-    /// `Vertices`, `Workers` and `EdgeLimit` come exactly if that number of the options is out of its range. If several
-    /// are, the first of them comes. `Memory` comes only if memory ran out. Takes memory and time for the vertices.
+    /// Fails with `Vertices`, `Workers` or `EdgeLimit` exactly if that number of the options is out of its range. If
+    /// several are, the fault is that of the first. Fails with `Memory` only if memory ran out. Takes memory and time
+    /// for the vertices.
     pub fn open(rt: &'a R, alloc: Global, options: Options) -> Result<Service<'a, R>, OpenFault>
         ensures ok { IfOk result (λ service. service ≡ opened service.table options) }
         ensures err { IfErr result (OpenCause options) }
@@ -122,7 +123,7 @@ impl<'a, R: Threads + Sync> Service<'a, R> {
     ///
     /// Loops, repeats and items that would change nothing drop out. First edges leave, and the levels fall to the
     /// greatest list that meets the lower invariant. Then edges come in, and the levels rise to the least list that
-    /// meets the upper invariant. Afterwards both invariants hold.
+    /// meets the upper invariant. Afterwards both invariants hold, so that the levels bound the coreness again.
     ///
     /// Of these faults the first that applies is returned:
     ///
@@ -210,15 +211,15 @@ impl<'a, R> Service<'a, R> {
         self.board.store.vertices()
     }
 
-    /// Returns whether a batch ran out of memory while it was applied. If so, no more batches are applied, and only
-    /// readers answer.
+    /// Returns whether the service has halted: a batch ran out of memory while it was applied. If so, no more batches
+    /// are applied, and only readers answer.
     pub fn has_halted(&self) -> bool
         ensures { result ≡ self.now.halted }
     {
         self.halted
     }
 
-    /// Returns the graph after the last batch, or `Halted`.
+    /// Returns the graph after the last batch. Fails exactly if the service has halted.
     pub fn graph(&self) -> Result<&Graph, Halted>
         ensures value { IfOk result (λ graph. graph.now ≡ self.now.state.graph) }
         ensures sound { OnOk result (IsSound self.now.edge_limit self.now.state) }
@@ -231,7 +232,7 @@ impl<'a, R> Service<'a, R> {
         Ok(self.engine.graph())
     }
 
-    /// Returns the level of each vertex after the last batch, or `Halted`.
+    /// Returns the level of each vertex after the last batch. Fails exactly if the service has halted.
     pub fn levels(&self) -> Result<&Levels, Halted>
         ensures value { IfOk result (λ levels. levels.now ≡ self.now.state.levels) }
         ensures sound { OnOk result (IsSound self.now.edge_limit self.now.state) }
@@ -246,8 +247,8 @@ impl<'a, R> Service<'a, R> {
 
     /// Returns the coreness of each vertex after the last batch (`IsCoreness`).
     ///
-    /// `Halted` comes exactly if the service has halted, and `Memory` only if memory ran out. Cost: one pass over the
-    /// vertices and edges, and memory for four numbers a vertex.
+    /// Fails with `Halted` exactly if the service has halted, and with `Memory` only if memory ran out. Cost: one pass
+    /// over the vertices and edges, and memory for four numbers a vertex.
     pub fn coreness(&self) -> Result<Vec<u32>, CorenessFault>
         ensures sized { IfOk result (λ r. length r.items ≡ self.now.vertices) }
         ensures coreness { IfOk result (λ r. (v : ℕ) → v < self.now.vertices → IsCoreness self.now.state.graph v (slice_index r.items v)) }
@@ -259,12 +260,12 @@ impl<'a, R> Service<'a, R> {
         exact_coreness(self.alloc, self.engine.graph()).map_err(CorenessFault::Memory)
     }
 
-    /// Writes the certificate of the graph and levels after the last batch, which anyone can check without the history
-    /// (`Certifies`).
+    /// Writes the certificate of the graph and levels after the last batch (`Certifies`). Anyone can check it without
+    /// the history, by the command `kcore check`.
     ///
-    /// `Halted` comes exactly if the service has halted; then nothing was written. `WriteFault` comes only if a write
-    /// failed, and `Memory` only if memory ran out. After both the sink took a prefix of the text. Cost: one pass over
-    /// the vertices and edges.
+    /// Fails with `Halted` exactly if the service has halted; then nothing was written. Fails with `WriteFault` only if
+    /// a write failed, and with `Memory` only if memory ran out. After both the sink took a prefix of the text. Cost:
+    /// one pass over the vertices and edges.
     pub fn certificate<K: Sink>(&self, sink: &mut K) -> Result<(), CertificateFault>
         ensures text { Certifies self.now (K.taken sink.old) (K.taken sink.new) result }
         ensures cause { CertificateCause (K.faults sink.old) (K.faults sink.new) result }
@@ -281,8 +282,10 @@ impl<'a, R> Service<'a, R> {
         }
     }
 
-    /// Ends the service, and returns its parts. A proof may go on with the calls of the crates below. One of them is
-    /// `Writer::take_in`, which says that the part seen by a reader is a beginning of the history.
+    /// Ends the service, and returns its parts, for a program that goes on with the crates below.
+    ///
+    /// So a proof can use `Writer::take_in`, which says that the part that a reader has seen is a beginning of the
+    /// history.
     pub fn into_parts(self) -> Parts
         ensures store { (arc_value result.board).store ≡ record { table = self.entry.table; vertices = self.entry.vertices } }
         ensures writer { result.writer.table ≡ self.entry.table }

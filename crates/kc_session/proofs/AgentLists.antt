@@ -3,6 +3,7 @@ use Rattle.std.proofs.Common.{ℕ, suc, ◌≡◌, ◌+◌, ◌<◌, List, [], �
 use Rattle.std.specs.Prelude.{All}
 use Rattle.std.proofs.lemmas.List.{take-append-le}
 use Rattle.std.proofs.lemmas.List.Elements.{All-nil, All-cons}
+use Rattle.std.proofs.lemmas.Bool.Decides.{nat_tests}
 use Rattle.kc_history.specs.declared.entries.Entry.{Entry}
 use Rattle.kc_history.specs.declared.replies.Reply.{Reply}
 use Rattle.kc_history.specs.Replies.{AreExplained, vertices_of}
@@ -77,11 +78,7 @@ closed_explained store first history k [] [] (rs ∷ more) r h = absurd h
 closed_explained store first history k [] (b ∷ bs) lists r h = absurd r
 closed_explained store first history k (ask ∷ asks) [] lists r h = absurd r
 closed_explained store first history k (ask ∷ asks) (b ∷ bs) [] r h = absurd h
-closed_explained store first history k (ask ∷ asks) (b ∷ bs) (rs ∷ more) r h =
-    let same : b.store ≡ store = ap (λ (z : AgentShape). z.store) r.0.same in
-    All-cons (AreExplained store.vertices history 0) rs more
-    (earlier_explains store.vertices history 0 b.made rs (omega arith) (subst (λ (s : StoreShape). AreExplained s.vertices history b.made rs) same h.0.1.1))
-    (closed_explained store first history (k + 1) asks bs more r.1 h.1)
+closed_explained store first history k (ask ∷ asks) (b ∷ bs) (rs ∷ more) r h = grind (arith, nat_tests, closed_explained store first history (k + 1) asks bs more r.1 h.1, earlier_explains, r.0.same, h.0.1.1, r.1, h.1)
 
 -- a list that was written through a slice of the whole
 written : {A : Type 0} → (n : ℕ) (xs ys : List A) → n ≡ length xs → length ys ≡ length xs → take n (ys ++ drop (length ys) xs) ≡ ys

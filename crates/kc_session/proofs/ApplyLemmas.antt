@@ -1,9 +1,10 @@
 -- A batch without a fault that was planned, and then shown.
-use Rattle.std.proofs.Common.{ℕ, ◌≡◌, ◌≤◌, List, length, false, refl, sym, ap, ◌∙◌, subst}
+use Rattle.std.proofs.Common.{◌≡◌, ◌≤◌, List, length, false, refl, subst, arith}
 use Rattle.std.specs.Prelude.{All}
+use Rattle.std.proofs.lemmas.Bool.Decides.{nat_tests}
 use Rattle.kc_graph.specs.declared.cleaning.Cleaned.{Cleaned}
 use Rattle.kc_graph.specs.declared.items.Item.{Item}
-use Rattle.kc_graph.specs.declared.limits.TheConstants.{MAX_EDGES, MAX_ITEMS}
+use Rattle.kc_graph.specs.declared.limits.TheConstants.{MAX_ITEMS}
 use Rattle.kc_graph.specs.Cleaning.{IsInside, cleaned}
 use Rattle.kc_engine.specs.declared.plans.BatchPlan.{BatchPlan}
 use Rattle.kc_engine.specs.States.{IsSound}
@@ -35,11 +36,4 @@ lead_over a e f items d plan h abreast same p = record {
 
 -- the engine takes more batches
 pub open_after : (e f h : EngineView) (d : Cleaned) (plan : BatchPlan) → IsOpen e → IsPlanned e d plan f → IsSound f.edge_limit f.state → h ≡ record f { waits = false } → IsOpen h
-open_after e f h d plan o p sound is =
-    let limit : f.edge_limit ≡ MAX_EDGES = ap (λ (z : EngineView). z.edge_limit) p.rest ∙ o.limit in
-    subst (λ (z : EngineView). IsOpen z) (sym is) record {
-      running = ap (λ (z : EngineView). z.halted) p.rest ∙ o.running;
-      none_waits = refl;
-      limit = limit;
-      sound = subst (λ (k : ℕ). IsSound k f.state) limit sound;
-    }
+open_after e f h d plan o p sound is = grind (arith, nat_tests, p.rest, o.limit, o.running)

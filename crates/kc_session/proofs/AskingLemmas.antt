@@ -1,7 +1,9 @@
 -- Replies while an agent puts its questions.
-use Rattle.std.proofs.Common.{ℕ, suc, zero, ◌≡◌, ◌+◌, ◌*◌, ◌<◌, ◌≤◌, List, [], ◌∷◌, ◌++◌, length, get_or, set, take, refl, ap, sym, ◌∙◌, arith, subst, append_assoc, append-nil, length-append, true, false}
+use Rattle.std.proofs.Common.{ℕ, suc, zero, ◌≡◌, ◌+◌, ◌*◌, ◌<◌, ◌≤◌, List, [], ◌∷◌, ◌++◌, length, get_or, set, take, refl, ap, sym, ◌∙◌, arith, subst, append_assoc, length-append, true, false}
 use Rattle.std.specs.Prelude.{All}
 use Rattle.std.proofs.lemmas.List.Elements.{All-nil, All-cons, All-head, All-tail}
+use Rattle.std.proofs.lemmas.Bool.Decides.{nat_tests}
+use Rattle.std.proofs.lemmas.List.{take_more_set}
 use mathlib.Core.List.{IsPrefix}
 use Rattle.kc_history.specs.declared.entries.Entry.{Entry}
 use Rattle.kc_history.specs.declared.replies.Reply.{Reply}
@@ -10,8 +12,8 @@ use Rattle.kc_history.proofs.lemmas.Replies.{longer_explains, end_explains_more,
 use Rattle.kc_batch.specs.declared.ask.Ask.{Ask}
 use Rattle.kc_store.specs.Seats.{PassShape}
 use Rattle.kc_store.specs.States.{last_level}
-use Rattle.kc_session.specs.Agents.{AgentShape, IsAgent, IsKept, agent_shape, repeated, questions}
-use Rattle.kc_session.proofs.Lists.{take_set, take_snoc, take_all}
+use Rattle.kc_session.specs.Agents.{AgentShape, IsKept, agent_shape, repeated, questions}
+use Rattle.kc_session.proofs.Lists.{take_snoc}
 
 zeros-append : (vs ws : List ℕ) → zeros (vs ++ ws) ≡ zeros vs ++ zeros ws
 zeros-append [] ws = refl
@@ -69,11 +71,7 @@ length-repeated zero vs = omega arith
 length-repeated (suc k) vs = let e = length-append (repeated k vs) vs in let f = length-repeated k vs in let g : suc k * length vs ≡ k * length vs + length vs = omega arith in omega (arith, e, f, g)
 
 pub replies_few : (ask : Ask) (rs : List Reply) → vertices_of rs ≡ questions ask → ask.times * length ask.vertices ≤ 65536 → length rs ≤ 65536
-replies_few ask rs e few =
-    let a = length-vertices rs in
-    let b = ap (λ (vs : List ℕ). length vs) e in
-    let d = length-repeated ask.times ask.vertices in
-    omega (arith, a, b, d, few)
+replies_few ask rs e few = grind (arith, nat_tests, length-vertices, length-repeated)
 
 -- the first i questions were put
 pub record IsAsking (n : ℕ) (first : PassShape) (asked : List Reply) (i : ℕ) (pass : PassShape) (replies : List Reply) : Type 0 where
@@ -83,9 +81,6 @@ pub record IsAsking (n : ℕ) (first : PassShape) (asked : List Reply) (i : ℕ)
   pub vertices : vertices_of replies ≡ vertices_of asked
   pub sized : length replies ≡ length asked
   pub explained : AreExplained n pass.seen first.made (take i replies)
-
-pub asking_none : (n : ℕ) (first : PassShape) (asked : List Reply) → first.made ≤ length first.seen → IsAsking n first asked 0 first asked
-asking_none n first asked le = record { same = refl; made_in = le; later = ([], append-nil first.seen); vertices = refl; sized = refl; explained = tt }
 
 length-set : (xs : List Reply) (i : ℕ) (r : Reply) → length (set xs i r) ≡ length xs
 length-set [] i r = refl
@@ -98,23 +93,7 @@ prefix_explains n a b from rs p h = subst (λ (c : List Entry). AreExplained n c
 pub asking_more : (n : ℕ) (first : PassShape) (asked : List Reply) (i : ℕ) (pass next : PassShape) (replies : List Reply) (d r : Reply) → IsAsking n first asked i pass replies → i < length replies
     → next ≡ record pass { seen = next.seen } → IsPrefix pass.seen next.seen → r.vertex ≡ (get_or replies i d).vertex → last_level n next.seen r.vertex ≡ r.level
     → IsAsking n first asked (i + 1) next (set replies i r)
-asking_more n first asked i pass next replies d r h lt same p vertex level =
-    let made : next.made ≡ pass.made = ap (λ (s : PassShape). s.made) same in
-    let before : pass.made ≡ first.made = ap (λ (s : PassShape). s.made) h.same in
-    let grown : length pass.seen ≤ length next.seen = (let e = ap (λ (es : List Entry). length es) p.1 in let f = length-append pass.seen p.0 in omega (arith, e, f)) in
-    let made_in : next.made ≤ length next.seen = (let x = h.made_in in omega (arith, made, x, grown)) in
-    record {
-      same = same ∙ ap (λ (s : PassShape). record s { seen = next.seen }) h.same;
-      made_in = made_in;
-      later = (h.later.0 ++ p.0, sym (append_assoc first.seen h.later.0 p.0) ∙ (ap (λ (es : List Entry). es ++ p.0) h.later.1 ∙ p.1));
-      vertices = vertices_set replies i d r lt vertex ∙ h.vertices;
-      sized = length-set replies i r ∙ h.sized;
-      explained = subst (λ (rs : List Reply). AreExplained n next.seen first.made rs) (sym (take_set replies i r lt))
-          (end_explains_more n next.seen first.made (take i replies) r (omega (arith, made_in, made, before)) (prefix_explains n pass.seen next.seen first.made (take i replies) p h.explained) (record { inside = omega arith; level = level }));
-    }
-
-pub asked_all : (n : ℕ) (seen : List Entry) (made i : ℕ) (rs : List Reply) → i ≡ length rs → AreExplained n seen made (take i rs) → AreExplained n seen made rs
-asked_all n seen made i rs all h = subst (λ (ts : List Reply). AreExplained n seen made ts) (ap (λ j. take j rs) all ∙ take_all rs) h
+asking_more n first asked i pass next replies d r h lt same p vertex level = grind (arith, nat_tests, length-append, append_assoc, vertices_set, length-set, take_more_set, end_explains_more, prefix_explains, h.same, p.1, p.0, h.made_in, h.later.0, h.later.1, h.vertices, h.sized, h.explained)
 
 -- an agent that has just been opened
 pub fresh_is_kept : (n reader : ℕ) (pass : PassShape) (rs : List Reply) (ask : Ask) → pass.made ≡ length pass.seen → rs ≡ zeros (questions ask) → All (λ v. v < n) ask.vertices → ask.times * length ask.vertices ≤ 65536
@@ -130,25 +109,6 @@ fresh_is_kept n reader pass rs ask made none below few = record {
     no : false ≡ true → ⊥
     no h = cc
 
-first_all : (rs : List Reply) (vs : List ℕ) → vertices_of rs ≡ vs → vertices_of rs ≡ take (length rs) vs
-first_all rs vs e =
-    let n : length rs ≡ length vs = sym (length-vertices rs) ∙ ap (λ (ws : List ℕ). length ws) e in
-    e ∙ sym (ap (λ j. take j vs) n ∙ take_all vs)
-
--- an agent that has just run
-pub run_is_kept : (n reader : ℕ) (before after : PassShape) (kept rs : List Reply) (ask : Ask) → IsKept (agent_shape before n reader ask kept false) kept → after ≡ record before { seen = after.seen } → IsPrefix before.seen after.seen
-    → vertices_of rs ≡ vertices_of kept → AreExplained n after.seen before.made rs → IsKept (agent_shape after n reader ask rs true) rs
-run_is_kept n reader before after kept rs ask is same later vertices explained =
-    let made : after.made ≡ before.made = ap (λ (s : PassShape). s.made) same in
-    let all : vertices_of rs ≡ questions ask = vertices ∙ is.vertices in
-    record {
-      agent = record { first = first_all rs (questions ask) all; all = λ h. all; explained = subst (λ k. AreExplained n after.seen k rs) (sym made) explained };
-      made_in = (let e = ap (λ (es : List Entry). length es) later.1 in let f = length-append before.seen later.0 in let x = is.made_in in omega (arith, e, f, x, made));
-      below = is.below;
-      few = is.few;
-      vertices = all;
-    }
-
 -- an agent that is closed
 pub record IsClosing (self : AgentShape) (history : List Entry) (rs : List Reply) : Type 0 where
   pub replies : rs ≡ self.replies
@@ -157,13 +117,4 @@ pub record IsClosing (self : AgentShape) (history : List Entry) (rs : List Reply
   pub explained : AreExplained self.store.vertices history self.made rs
 
 pub closing : (inside self : AgentShape) (kept rs : List Reply) (history : List Entry) → inside ≡ self → IsKept inside kept → rs ≡ inside.replies → IsPrefix inside.seen history → IsClosing self history rs
-closing inside self kept rs history view is e later =
-    let agent : IsAgent self = subst (λ (a : AgentShape). IsAgent a) view is.agent in
-    let same : rs ≡ self.replies = e ∙ ap (λ (a : AgentShape). a.replies) view in
-    let more : IsPrefix self.seen history = subst (λ (a : AgentShape). IsPrefix a.seen history) view later in
-    record {
-      replies = same;
-      first = subst (λ (ts : List Reply). vertices_of ts ≡ take (length ts) (questions self.ask)) (sym same) agent.first;
-      all = λ h. ap (λ (ts : List Reply). vertices_of ts) same ∙ agent.all h;
-      explained = subst (λ (ts : List Reply). AreExplained self.store.vertices history self.made ts) (sym same) (prefix_explains self.store.vertices self.seen history self.made self.replies more agent.explained);
-    }
+closing inside self kept rs history view is e later = grind (arith, nat_tests, prefix_explains, is.agent)

@@ -1,7 +1,8 @@
 -- An audience of readers, by their writer.
-use Rattle.std.proofs.Common.{◌≡◌, sym, ap, ◌∙◌, subst}
+use Rattle.std.proofs.Common.{◌≡◌, ap, arith}
 use Rattle.std.specs.Prelude.{Some, None}
 use Rattle.std.proofs.lemmas.Option.{same_Some}
+use Rattle.std.proofs.lemmas.Bool.Decides.{nat_tests}
 use Rattle.kc_store.specs.Seats.{StoreShape, WriterShape}
 use Rattle.kc_engine.specs.States.{State}
 use Rattle.kc_engine.specs.Showing as showing
@@ -21,8 +22,5 @@ shown_by_writer Nobody writer e = absurd cc
 
 -- so the writer is up to date
 pub writer_is_abreast : (a : Audience) (store : StoreShape) (writer : WriterShape) (s : State) → store_of a ≡ Some store → writer_of a ≡ Some writer → IsAbreast a s → (writer.table ≡ store.table) × showing.IsAbreast writer.state s
-writer_is_abreast (Readers place w) store writer s e f h =
-    let same : w ≡ writer = same_Some _ _ f in
-    let there : place.now ≡ store = same_Some _ _ e in
-    (ap (λ (x : WriterShape). x.table) (sym same) ∙ (h.0 ∙ ap (λ (x : StoreShape). x.table) there), subst (λ (x : WriterShape). showing.IsAbreast x.state s) same h.1)
+writer_is_abreast (Readers place w) store writer s e f h = grind (arith, nat_tests, same_Some, place.now, h.0, h.1)
 writer_is_abreast Nobody store writer s e f h = absurd cc

@@ -1,9 +1,10 @@
 -- A batch without a fault that was applied, and its line.
 use Rattle.std.proofs.Common.{ℕ, ◌≡◌, ◌≤◌, ◌<◌, ◌+◌, Bool, true, false, List, [], ◌∷◌, length, refl, ◌∙◌, subst, arith}
 use Rattle.std.proofs.lemmas.List.Sums.{length-filter, count_by-le-length}
-use Rattle.std.proofs.lemmas.List.Elements.{All-nil, All-cons, All-append}
+use Rattle.std.proofs.lemmas.List.Elements.{All-nil, All-append}
 use Rattle.std.specs.Prelude.{Option, None, All}
 use Rattle.std.specs.Io.KnownBytes.{append_known}
+use Rattle.std.proofs.lemmas.Bool.Decides.{nat_tests}
 use Rattle.kc_graph.specs.declared.cleaning.Cleaned.{Cleaned}
 use Rattle.kc_graph.specs.declared.items.Item.{Item}
 use Rattle.kc_graph.specs.declared.limits.TheConstants.{MAX_EDGES, MAX_ITEMS}
@@ -21,7 +22,7 @@ use Rattle.kc_batch.specs.Batches.{IsNext}
 use Rattle.kc_text.proofs.lemmas.Writing.{prefix_none}
 use Rattle.kc_history.specs.declared.entries.Entry.{Entry}
 use Rattle.kc_groups.specs.declared.plans.PhasePlan.{PhasePlan}
-use Rattle.kc_groups.specs.Entries.{is_quiet, entries_in}
+use Rattle.kc_groups.specs.Entries.{entries_in}
 use Rattle.kc_groups.specs.WellFormed.{IsWellFormed}
 use Rattle.kc_engine.specs.States.{State, IsSound}
 use Rattle.kc_engine.specs.Batches.{phases_for, graph_after_batch, ArePhaseOf, IsAfterPhases}
@@ -49,10 +50,7 @@ few_added g items graph inside few = omega (arith, each_item_counts_once g items
 few_quiet_of : (phase : ℕ) (add : Bool) (edges : List Pair) (x y : List ℕ) (g : GraphShape) (plans : List PhasePlan) → ArePhaseOf phase add edges x y g plans → length edges < 4294967296
     → All (λ (p : PhasePlan). length p.quiet.edges < 4294967296) plans
 few_quiet_of phase add [] x y g plans a few = rw a (All-nil (λ (p : PhasePlan). length p.quiet.edges < 4294967296))
-few_quiet_of phase add (e ∷ es) x y g plans a few =
-    let quiet : length a.plan.quiet.edges < 4294967296 =
-    rw (a.entries.quiet, length-filter (is_quiet x y) (e ∷ es)) (omega (arith, few, count_by-le-length (is_quiet x y) (e ∷ es))) in
-    rw a.alone (All-cons (λ (p : PhasePlan). length p.quiet.edges < 4294967296) a.plan [] quiet (All-nil (λ (p : PhasePlan). length p.quiet.edges < 4294967296)))
+few_quiet_of phase add (e ∷ es) x y g plans a few = grind (arith, nat_tests, length-filter, count_by-le-length, a.plan.quiet.edges, a.entries.quiet, a.alone, a.plan)
 
 pub few_quiet : (s t : State) (items : List Item) (plans : List PhasePlan) → IsGraph s.graph → length s.graph.edges ≤ MAX_EDGES → All (IsInside s.graph.vertices) items → length items ≤ MAX_ITEMS
     → IsAfterPhases s (cleaned s.graph items) t plans → All (λ (p : PhasePlan). length p.quiet.edges < 4294967296) plans

@@ -1,16 +1,14 @@
 -- Counts that stop at the greatest number of 32 bits, while they are added up.
-use Rattle.std.proofs.Common.{ℕ, suc, ◌≡◌, ◌<◌, ◌≤◌, ◌+◌, List, take, length, get_or, min, refl, sym, ap, ◌∙◌, arith}
+use Rattle.std.proofs.Common.{ℕ, suc, ◌≡◌, ◌<◌, ◌+◌, List, take, length, get_or, min, refl, sym, ap, ◌∙◌, arith}
 use Rattle.std.specs.List.{sum_by}
 use Rattle.std.proofs.Math.Seq.{take-suc, take-length}
 use Rattle.std.proofs.lemmas.List.Sums.{sum_by_push}
+use Rattle.std.proofs.lemmas.Bool.Decides.{nat_tests}
 use Rattle.kc_session.specs.declared.counts.Counts.{Counts}
 use Rattle.kc_session.specs.Counts.{capped}
 
 pub capped_more : (a b c : ℕ) → c ≡ capped a → capped (c + b) ≡ capped (a + b)
-capped_more a b c e = let m = min_cases a 4294967295 in let n = min_cases (c + b) 4294967295 in let o = min_cases (a + b) 4294967295 in omega (arith, e, m, n, o)
-  where
-    min_cases : (x y : ℕ) → min x y ≤ x
-    min_cases x y = omega arith
+capped_more a b c e = grind (arith, nat_tests, min)
 
 -- one more item of a list was added
 pub capped_next : (X : Type 0) (f : X → ℕ) (xs : List X) (i : ℕ) (d : X) (first old more new : ℕ) → i < length xs → old ≡ capped (first + sum_by f (take i xs)) → more ≡ f (get_or xs i d) → new ≡ capped (old + more)

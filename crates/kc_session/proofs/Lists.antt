@@ -1,6 +1,7 @@
 -- Lists, item by item.
-use Rattle.std.proofs.Common.{ℕ, suc, zero, ◌≡◌, ◌+◌, ◌<◌, List, [], ◌∷◌, ◌++◌, length, get_or, set, take, refl, ap, sym, ◌∙◌, arith, append_assoc, append-nil, length-append, subst}
+use Rattle.std.proofs.Common.{ℕ, suc, zero, ◌≡◌, ◌+◌, ◌<◌, List, [], ◌∷◌, ◌++◌, length, get_or, take, refl, ap, sym, ◌∙◌, arith, append_assoc, length-append, subst}
 use Rattle.std.specs.Prelude.{All}
+use Rattle.std.proofs.lemmas.Bool.Decides.{nat_tests}
 
 take_suc : {A : Type 0} → (xs : List A) (i : ℕ) (d x : A) → i < length xs → x ≡ get_or xs i d → take (suc i) xs ≡ take i xs ++ x ∷ []
 take_suc [] i d x lt is = absurd (omega (arith, lt))
@@ -15,31 +16,14 @@ pub take_all : {A : Type 0} → (xs : List A) → take (length xs) xs ≡ xs
 take_all [] = refl
 take_all (x ∷ xs) = ap (λ zs. x ∷ zs) (take_all xs)
 
-take_set_suc : {A : Type 0} → (xs : List A) (i : ℕ) (r : A) → i < length xs → take (suc i) (set xs i r) ≡ take i xs ++ r ∷ []
-take_set_suc [] i r lt = absurd (omega (arith, lt))
-take_set_suc (x ∷ xs) zero r lt = refl
-take_set_suc (x ∷ xs) (suc i) r lt = ap (λ zs. x ∷ zs) (take_set_suc xs i r (omega (arith, lt)))
-
--- the items below i, and then number i, which was set
-pub take_set : {A : Type 0} → (xs : List A) (i : ℕ) (r : A) → i < length xs → take (i + 1) (set xs i r) ≡ take i xs ++ r ∷ []
-take_set xs i r lt = let e : i + 1 ≡ suc i = omega arith in ap (λ k. take k (set xs i r)) e ∙ take_set_suc xs i r lt
-
 -- an item after others
 pub at_end : {A : Type 0} → (xs : List A) (x : A) (ys : List A) (d : A) → get_or (xs ++ x ∷ ys) (length xs) d ≡ x
 at_end [] x ys d = refl
 at_end (z ∷ zs) x ys d = at_end zs x ys d
 
-pub no_items : {A : Type 0} → (xs : List A) → length xs ≡ 0 → xs ≡ []
-no_items [] e = refl
-no_items (x ∷ xs) e = absurd (omega (arith, e))
-
 -- one item was taken of those that are left
 pub moved_over : {A : Type 0} → (all past rest later : List A) (x : A) → past ++ rest ≡ all → rest ≡ x ∷ later → (past ++ x ∷ []) ++ later ≡ all
 moved_over all past rest later x e f = append_assoc past (x ∷ []) later ∙ (ap (λ zs. past ++ zs) (sym f) ∙ e)
-
--- all items were taken
-pub all_over : {A : Type 0} → (all past rest : List A) → past ++ rest ≡ all → length rest ≡ 0 → past ≡ all
-all_over all past rest e none = sym (append-nil past) ∙ (ap (λ zs. past ++ zs) (sym (no_items rest none)) ∙ e)
 
 -- a fact about all items holds of the next one
 pub next_of_all : {A : Type 0} → (P : A → Type 0) (all past rest later : List A) (x : A) → All P all → past ++ rest ≡ all → rest ≡ x ∷ later → P x
@@ -51,8 +35,4 @@ next_of_all P all past rest later x every e f =
 
 -- before an item there are fewer than in all
 pub fewer_past : {A : Type 0} → (all past rest later : List A) (x : A) → past ++ rest ≡ all → rest ≡ x ∷ later → length past < length all
-fewer_past all past rest later x e f =
-    let whole : past ++ x ∷ later ≡ all = ap (λ zs. past ++ zs) (sym f) ∙ e in
-    let z = ap (λ zs. length zs) whole in
-    let y = length-append past (x ∷ later) in
-    omega (arith, z, y)
+fewer_past all past rest later x e f = grind (arith, nat_tests, length-append)

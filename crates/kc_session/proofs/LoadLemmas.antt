@@ -1,10 +1,11 @@
 -- The lines of a generated load as they are made.
-use Rattle.std.proofs.Common.{ℕ, suc, zero, ◌+◌, ◌-◌, ◌<◌, ◌≤◌, ◌≡◌, ◌≢◌, Bool, true, false, List, [], ◌∷◌, ◌++◌, length, take, drop, refl, ap, sym, ◌∙◌, append_assoc, add-one, length-append, drop-drop, subst, arith}
+use Rattle.std.proofs.Common.{ℕ, suc, zero, ◌+◌, ◌-◌, ◌<◌, ◌≤◌, ◌≡◌, ◌≢◌, Bool, true, false, List, [], ◌∷◌, ◌++◌, length, take, drop, refl, ap, sym, ◌∙◌, append_assoc, add-one, length-append, drop-drop, arith}
 use Rattle.std.specs.Prelude.{decimal, codes, min}
 use Rattle.std.specs.List.{flat_map, join_with_byte}
 use Rattle.std.proofs.lemmas.List.{flat_map_more, length-take, length-drop, take-append-le, take-append-drop, drop_all, take_all}
 use Rattle.std.proofs.Math.Seq.{take-append-add}
-use borrow.Rule.Slice.PartMut.{put_mid, post_of}
+use Rattle.std.proofs.lemmas.Bool.Decides.{nat_tests}
+use borrow.Rule.Slice.PartMut.{put_mid}
 use Rattle.kc_report.proofs.lemmas.Lines.{joined}
 use Rattle.kc_text.specs.Printing.{printed_line, printed}
 use Rattle.kc_session.specs.declared.generator.Place.TheVariants.{Format, Vertices, FirstAsk, SecondAsk, Batch, Items}
@@ -120,10 +121,7 @@ all_given g line at k room h e r none z =
     rw (z, none same, drop_all (at + 0) line (omega arith)) refl
 
 put_front : (count more k : ℕ) (xs ys : List ℕ) → count ≤ length xs → more ≤ length ys → take (count + more) (put_mid count k xs ys) ≡ take count xs ++ take more ys
-put_front count more k xs ys h m =
-    let front : length (take count xs) ≡ count = omega (arith, length-take count xs) in
-    subst (λ (n : ℕ). take (n + more) (put_mid count k xs ys) ≡ take count xs ++ take more ys) front
-    (take-append-add (take count xs) (ys ++ post_of count k xs) more ∙ ap (λ (t : List ℕ). take count xs ++ t) (take-append-le more ys (post_of count k xs) m))
+put_front count more k xs ys h m = grind (arith, nat_tests, length-take, take-append-add, take-append-le)
 
 pub put_length : (count : ℕ) (xs ys : List ℕ) → count ≤ length xs → length ys ≡ length xs - count → length (put_mid count (length xs - count) xs ys) ≡ length xs
 put_length count xs ys h e = simp (length-append, length-take, length-drop) (omega arith)

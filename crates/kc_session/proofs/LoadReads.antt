@@ -28,9 +28,8 @@ use Rattle.kc_text.specs.Numbers.{number_of, value_from}
 use Rattle.kc_text.specs.Kept.{kept}
 use Rattle.kc_batch.specs.declared.ask.Ask.{Ask}
 use Rattle.kc_report.proofs.lemmas.Lines.{joined}
-use Rattle.kc_batch.specs.declared.batch.Next.{Next}
 use Rattle.kc_batch.specs.BatchInputs.{WithBatches, behind_header, input_of}
-use Rattle.kc_batch.specs.Headers.{HeaderText, Accepted, profile_in, vertices_in, ask_in, numbers_of, header_of}
+use Rattle.kc_batch.specs.Headers.{Accepted, profile_in, vertices_in, ask_in, numbers_of, header_of}
 use Rattle.kc_batch.specs.HeaderLaw.{IsBeginning, IsAskLine}
 use Rattle.kc_batch.proofs.lemmas.Inputs.{first_other_line_ends}
 use Rattle.kc_session.specs.LoadInputs.{item_drawn, items_drawn, load_batches, load_ask, load_header, LoadsAreRead}
@@ -141,13 +140,7 @@ first_small (suc k) h =
 first_short : (k : ℕ) → k ≤ 16 → length (flat_map (λ (x : ℕ). 32 ∷ decimal x) (first_numbers k)) ≤ 11 * k
 unfolding first_numbers
 first_short zero h = omega arith
-first_short (suc k) h =
-    let a = first_short k (omega arith) in
-    let b = numbers_are_read_back.short k (omega arith) in
-    let c = ap (λ (t : List ℕ). length t) (flat_map-append (λ (x : ℕ). 32 ∷ decimal x) (first_numbers k) (k ∷ [])) in
-    let d = length-append (flat_map (λ (x : ℕ). 32 ∷ decimal x) (first_numbers k)) (flat_map (λ (x : ℕ). 32 ∷ decimal x) (k ∷ [])) in
-    let e = length-append (32 ∷ decimal k) [] in
-    omega (arith, a, b, c, d, e)
+first_short (suc k) h = grind (arith, nat_tests, first_short k (omega arith), numbers_are_read_back, flat_map-append, length-append)
 
 first_length : (k : ℕ) → length (first_numbers k) ≡ k
 unfolding first_numbers
@@ -190,12 +183,7 @@ unfolding printed
 printed_one ws ls = length-append (printed_line ws) (printed ls) ∙ ap (λ (m : ℕ). m + length (printed ls)) (length-append (join_with_byte 32 ws) (10 ∷ []))
 
 numbers_short : (sign : List ℕ) (u v : ℕ) → length sign ≡ 1 → u < 2 ^ 32 → v < 2 ^ 32 → length (join_with_byte 32 (sign ∷ decimal u ∷ decimal v ∷ [])) ≤ 23
-numbers_short sign u v e hu hv =
-    let a = numbers_are_read_back.short u hu in
-    let b = numbers_are_read_back.short v hv in
-    let c = length-append sign (32 ∷ (decimal u ++ 32 ∷ decimal v)) in
-    let d = length-append (decimal u) (32 ∷ decimal v) in
-    omega (arith, a, b, c, d)
+numbers_short sign u v e hu hv = grind (arith, nat_tests, numbers_are_read_back, length-append)
 
 signed_short : (leaves : Bool) (u v : ℕ) → u < 2 ^ 32 → v < 2 ^ 32 → length (join_with_byte 32 ((if leaves then codes "-" else codes "+") ∷ decimal u ∷ decimal v ∷ [])) ≤ 23
 signed_short true u v hu hv = numbers_short (codes "-") u v refl hu hv
@@ -218,16 +206,7 @@ items_length n s (suc count) h k =
 batches_length : (n items s count : ℕ) → 1 ≤ n → n ≤ 16777216 → length (printed (drawn_batches n items s count)) ≤ 24 * (count * items) + 10 * count
 unfolding drawn_batches printed
 batches_length n items s zero h k = omega arith
-batches_length n items s (suc count) h k =
-    let rest = (codes "end" ∷ []) ∷ drawn_batches n items (after_items s items) count in
-    let a = items_length n s items h k in
-    let b = batches_length n items (after_items s items) count h k in
-    let c = printed_one (codes "batch" ∷ []) (drawn_items n s items ++ rest) in
-    let d = ap (λ (t : List ℕ). length t) (printed_more (drawn_items n s items) rest) in
-    let e = length-append (printed (drawn_items n s items)) (printed rest) in
-    let f = printed_one (codes "end" ∷ []) (drawn_batches n items (after_items s items) count) in
-    let g : suc count * items ≡ count * items + items = suc-mul count items in
-    omega (arith, a, b, c, d, e, f, g)
+batches_length n items s (suc count) h k = grind (arith, nat_tests, batches_length n items (after_items s items) count h k, items_length, printed_one, printed_more, length-append, suc-mul)
 
 load_length : (seed n batches items : ℕ) → 1 ≤ n → n ≤ 16777216 → batches ≤ 1024 → batches * items ≤ 33554432 → length (printed (load_words seed n batches items)) ≤ 2 ^ 30
 load_length seed n batches items h k few all =
@@ -365,11 +344,7 @@ header_read n items s count tail h k =
 -- the whole text
 behind_read : (n items s count last : ℕ) → 1 ≤ n → n ≤ 16777216 → items ≤ MAX_ITEMS
     → behind_header MAX_ITEMS (header_of (lines_of_words 1 (head_words n ++ drawn_batches n items s (suc count)) ++ record { number = last; body = End } ∷ [])) ≡ WithBatches (load_header n) (load_batches n items 5 s (suc count))
-behind_read n items s count last h k few =
-    let said = are_tokens 5 (drawn_batches n items s (suc count)) (record { number = last; body = End } ∷ []) (batches_said n items s (suc count) h k) in
-    ap (λ (t : HeaderText). behind_header MAX_ITEMS t) (header_read n items s count (record { number = last; body = End } ∷ []) h k)
-    ∙ ap (λ (ts : List Token). WithBatches (load_header n) (batches_from (load_rules n) Between ts)) said
-    ∙ ap (λ (bs : List Next). WithBatches (load_header n) bs) (batches_taken n items s (suc count) 5 last h k few)
+behind_read n items s count last h k few = grind (arith, nat_tests, are_tokens, batches_said, header_read, batches_taken)
 
 load_is_read : (line_limit input_limit seed n items count : ℕ) → 256 ≤ line_limit → 2 ^ 30 ≤ input_limit → IsLoad n (suc count) items
     → input_of line_limit input_limit MAX_ITEMS (generated seed n (suc count) items) ≡ WithBatches (load_header n) (load_batches n items 5 seed (suc count))

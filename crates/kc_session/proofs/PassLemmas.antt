@@ -3,13 +3,13 @@ use Rattle.std.proofs.Common.{ℕ, suc, zero, ◌≡◌, ◌+◌, ◌<◌, List,
 use mathlib.Core.List.{IsPrefix}
 use mathlib.Core.Logic.{dite}
 use native.Mathlib.Decide.{ℕ_discrete}
-use Rattle.std.proofs.lemmas.List.{get_or_append_left}
+use Rattle.std.proofs.lemmas.List.{get_or_append_left, nil_from_length}
 use Rattle.kc_history.specs.declared.entries.Entry.{Entry}
 use Rattle.kc_levels.specs.declared.moves.Move.{Move}
 use Rattle.kc_history.specs.Points.{levels_at, levels_after, with_moves}
 use Rattle.kc_store.specs.Seats.{PassShape}
 use Rattle.kc_store.specs.States.{last_level}
-use Rattle.kc_session.proofs.Lists.{no_items, at_end}
+use Rattle.kc_session.proofs.Lists.{at_end}
 
 -- a level that was read at some point between the end of the history and the end of what the pass has seen
 pub record WasRead (n : ℕ) (history seen : List Entry) (v l : ℕ) : Type 0 where
@@ -24,9 +24,6 @@ pub record IsReading (n : ℕ) (history : List Entry) (first : PassShape) (v : �
   pub later : IsPrefix history pass.seen
   pub long : length levels ≡ v
   pub each : (k d : ℕ) → k < v → WasRead n history pass.seen k (get_or levels k d)
-
-pub reading_none : (n : ℕ) (history : List Entry) (first : PassShape) (levels : List ℕ) → first.seen ≡ history → levels ≡ [] → IsReading n history first 0 first levels
-reading_none n history first levels e none = record { same = refl; later = ([], append-nil history ∙ sym e); long = ap (λ (xs : List ℕ). length xs) none; each = λ k d lt. absurd (omega (arith, lt)) }
 
 prefix_on : (a b c : List Entry) → IsPrefix a b → IsPrefix b c → IsPrefix a c
 prefix_on a b c p q = (p.0 ++ q.0, sym (append_assoc a p.0 q.0) ∙ (ap (λ (z : List Entry). z ++ q.0) p.1 ∙ q.1))
@@ -55,7 +52,7 @@ both_begin a b p q =
     let y = ap (λ (es : List Entry). length es) q.1 in
     let z = length-append a p.0 in
     let w = length-append b q.0 in
-    sym (append-nil a) ∙ (ap (λ (es : List Entry). a ++ es) (sym (no_items p.0 (omega (arith, x, y, z, w)))) ∙ p.1)
+    sym (append-nil a) ∙ (ap (λ (es : List Entry). a ++ es) (sym (nil_from_length p.0 (omega (arith, x, y, z, w)))) ∙ p.1)
 
 -- lists of one length with the same items are the same
 same_lists : (xs ys : List ℕ) → length xs ≡ length ys → ((k : ℕ) → k < length ys → get_or xs k 0 ≡ get_or ys k 0) → xs ≡ ys

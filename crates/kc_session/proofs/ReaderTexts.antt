@@ -2,6 +2,7 @@
 use Rattle.std.proofs.Common.{ℕ, suc, zero, ◌≡◌, ◌+◌, ◌<◌, List, [], ◌∷◌, ◌++◌, length, get_or, take, refl, ap, sym, ◌∙◌, arith, subst, append_assoc, append-nil}
 use Rattle.std.specs.Prelude.{Option}
 use Rattle.std.specs.Io.KnownBytes.{append_known}
+use Rattle.std.proofs.lemmas.Bool.Decides.{nat_tests}
 use Rattle.kc_text.specs.Writing.{IsPrefix}
 use Rattle.kc_text.proofs.lemmas.Writing.{append_twice, prefix_longer, prefix_then}
 use Rattle.kc_history.specs.declared.replies.Reply.{Reply}
@@ -11,11 +12,7 @@ use Rattle.kc_session.specs.ReaderLines.{reader_lines}
 lines_suc : (k : ℕ) (rs : List (List Reply)) (i : ℕ) (d : List Reply) → i < length rs → reader_lines k (take (suc i) rs) ≡ reader_lines k (take i rs) ++ reader_line (k + i) (get_or rs i d)
 lines_suc k [] i d lt = absurd (omega (arith, lt))
 lines_suc k (r ∷ rs) zero d lt = let e : k ≡ k + 0 = omega arith in append-nil (reader_line k r) ∙ ap (λ j. reader_line j r) e
-lines_suc k (r ∷ rs) (suc i) d lt =
-    let e : (k + 1) + i ≡ k + suc i = omega arith in
-    ap (λ (t : List ℕ). reader_line k r ++ t) (lines_suc (k + 1) rs i d (omega (arith, lt)))
-    ∙ (sym (append_assoc (reader_line k r) (reader_lines (k + 1) (take i rs)) (reader_line ((k + 1) + i) (get_or rs i d)))
-    ∙ ap (λ j. (reader_line k r ++ reader_lines (k + 1) (take i rs)) ++ reader_line j (get_or rs i d)) e)
+lines_suc k (r ∷ rs) (suc i) d lt = grind (arith, nat_tests, lines_suc (k + 1) rs i d (omega (arith, lt)), append_assoc)
 
 lines_more : (k : ℕ) (rs : List (List Reply)) (i : ℕ) (d : List Reply) → i < length rs → reader_lines k (take (i + 1) rs) ≡ reader_lines k (take i rs) ++ reader_line (k + i) (get_or rs i d)
 lines_more k rs i d lt = let e : i + 1 ≡ suc i = omega arith in ap (λ j. reader_lines k (take j rs)) e ∙ lines_suc k rs i d lt

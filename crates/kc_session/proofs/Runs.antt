@@ -1,21 +1,23 @@
 -- Batches one after another: their states, and the text of their lines while they are read.
-use Rattle.std.proofs.Common.{ℕ, ◌≡◌, ◌<◌, ◌≤◌, ◌+◌, Bool, true, false, List, [], ◌∷◌, ◌++◌, length, append_assoc, refl, sym, ap, ◌∙◌, subst, arith, length-append}
+use Rattle.std.proofs.Common.{ℕ, ◌≡◌, ◌<◌, ◌≤◌, ◌+◌, ◌^◌, Bool, true, false, List, [], ◌∷◌, ◌++◌, length, append_assoc, refl, sym, ap, ◌∙◌, subst, arith, length-append}
 use Rattle.std.specs.Prelude.{Option, Some, None, All, Err, Ok}
-use Rattle.std.specs.List.{sum_by}
 use Rattle.std.specs.Option.{option_map}
 use Rattle.std.proofs.lemmas.Option.{same_Some}
 use Rattle.std.proofs.lemmas.List.{append-nil}
 use Rattle.std.proofs.lemmas.List.Sums.{sum_by_push}
 use Rattle.std.proofs.lemmas.List.Elements.{All-head, All-tail}
+use Rattle.std.proofs.lemmas.Bool.Decides.{nat_tests}
 use Rattle.kc_text.specs.declared.reason.Reason.TheVariants.{Header, LineLong, BadLine, BadVertex, TooMany, Truncated, InputLimit, EdgeLimit, PhaseLimit}
+use Rattle.kc_text.specs.Reading.{Reading}
 use Rattle.kc_text.specs.Writing.{IsPrefix}
 use Rattle.kc_text.proofs.lemmas.Writing.{append_none, append_twice, prefix_none, prefix_longer, prefix_then}
+use Rattle.kc_batch.specs.declared.rules.Rules.{Rules}
 use Rattle.kc_batch.specs.declared.token.Token.{Token}
 use Rattle.kc_batch.specs.declared.batch.Next.{Next}
 use Rattle.kc_batch.specs.declared.batch.Next.TheVariants.{Items, Refused, End}
 use Rattle.kc_batch.specs.HeaderShape.{HeaderShape}
 use Rattle.kc_batch.specs.BatchInputs.{rules_of}
-use Rattle.kc_batch.specs.Batches.{batches, behind_batch, IsNext, IsEnd, TakesBatch}
+use Rattle.kc_batch.specs.Batches.{batches, batches_left, behind_batch, IsNext, IsEnd, TakesBatch}
 use Rattle.kc_batch.proofs.lemmas.Inputs.{batches_keep_ranges}
 use Rattle.kc_graph.specs.declared.limits.TheConstants.{MAX_EDGES, MAX_ITEMS}
 use Rattle.kc_history.specs.declared.entries.Entry.{Entry}
@@ -25,7 +27,7 @@ use Rattle.kc_session.specs.declared.counts.Counts.{Counts}
 use Rattle.kc_session.specs.declared.report.Report.{Report}
 use Rattle.kc_session.specs.declared.fault.SessionFault.{SessionFault}
 use Rattle.kc_session.specs.private.Audiences.{longer}
-use Rattle.kc_session.specs.Counts.{capped, one_if, groups_of, moves_of, refused_in, all_groups, all_moves}
+use Rattle.kc_session.specs.Counts.{one_if, refused_in}
 use Rattle.kc_session.specs.private.Counts.{counts_of, counted}
 use Rattle.kc_session.specs.States.{Step, AreSteps, last_state, history_of, is_refused}
 use Rattle.kc_session.specs.RunText.{step_text, batch_lines}
@@ -90,10 +92,7 @@ lines_append : (report : Report) (k : ℕ) (s : State) (bs cs : List Next) (ts u
 lines_append report k s [] cs [] us a = let e : k ≡ k + 0 = omega arith in ap (λ j. batch_lines report j s cs us) e
 lines_append report k s [] cs (t ∷ ts) us a = absurd a
 lines_append report k s (b ∷ bs) cs [] us a = absurd a
-lines_append report k s (b ∷ bs) cs (t ∷ ts) us a =
-    let e : (k + 1) + length ts ≡ k + length (t ∷ ts) = omega arith in
-    let rest = subst (λ (j : ℕ). batch_lines report (k + 1) t.state (bs ++ cs) (ts ++ us) ≡ batch_lines report (k + 1) t.state bs ts ++ batch_lines report j (last_state t.state ts) cs us) e (lines_append report (k + 1) t.state bs cs ts us a.1) in
-    rw rest (sym (append_assoc (step_text report k s b t.phases) (batch_lines report (k + 1) t.state bs ts) _))
+lines_append report k s (b ∷ bs) cs (t ∷ ts) us a = grind (arith, nat_tests, lines_append report (k + 1) t.state bs cs ts us a.1, append_assoc, a.1)
 
 history_append : (ts us : List Step) → history_of (ts ++ us) ≡ history_of ts ++ history_of us
 history_append [] us = refl
@@ -112,18 +111,7 @@ refused_append s (b ∷ bs) cs [] us a = absurd a
 refused_append s (b ∷ bs) cs (t ∷ ts) us a = let rest = refused_append t.state bs cs ts us a.1 in omega (arith, rest)
 
 counts_step : (s : State) (bs : List Next) (ts : List Step) (b : Next) (t : Step) (old new : Counts) → AreSteps s bs ts → old ≡ counts_of s bs ts → new ≡ counted (last_state s ts) b t old → new ≡ counts_of s (bs ++ b ∷ []) (ts ++ t ∷ [])
-counts_step s bs ts b t old new a e f =
-    let batches : new.batches ≡ length (ts ++ t ∷ []) = ap (λ (c : Counts). c.batches) f ∙ (ap (λ (c : Counts). c.batches + 1) e ∙ sym (length-append ts (t ∷ []))) in
-    let more = refused_append s bs (b ∷ []) ts (t ∷ []) a in
-    let refused : new.refused ≡ refused_in s (bs ++ b ∷ []) (ts ++ t ∷ []) = (let x = ap (λ (c : Counts). c.refused) f in let y = ap (λ (c : Counts). c.refused) e in omega (arith, x, y, more)) in
-    let groups : new.groups ≡ capped (all_groups (ts ++ t ∷ [])) =
-    ap (λ (c : Counts). c.groups) f ∙ (capped_more (all_groups ts) (groups_of t.phases) old.groups (ap (λ (c : Counts). c.groups) e) ∙ ap capped (sym (push_of (λ (u : Step). groups_of u.phases) ts t))) in
-    let moves : new.moves ≡ capped (all_moves (ts ++ t ∷ [])) =
-    ap (λ (c : Counts). c.moves) f ∙ (capped_more (all_moves ts) (moves_of t.phases) old.moves (ap (λ (c : Counts). c.moves) e) ∙ ap capped (sym (push_of (λ (u : Step). moves_of u.phases) ts t))) in
-    counts_same new (counts_of s (bs ++ b ∷ []) (ts ++ t ∷ [])) batches refused groups moves
-  where
-    push_of : (f : Step → ℕ) (ts : List Step) (t : Step) → sum_by f (ts ++ t ∷ []) ≡ sum_by f ts + f t
-    push_of f ts t = sum_by_push f ts t
+counts_step s bs ts b t old new a e f = grind (arith, nat_tests, length-append, refused_append, capped_more, counts_same, sum_by_push)
 
 -- the first batches were run; bs are the others, and s is the state before them
 pub record Leads (report : Report) (s0 : State) (bs0 : List Next) (s : State) (bs : List Next) (before now : Option (List ℕ)) (h i : Option (List Entry)) (counts : Counts) : Type 0 where
@@ -232,10 +220,7 @@ pub told_last : (report : Report) (s0 : State) (told0 : Option (List Next)) (s t
 told_last report s0 None s t next old new before now later h i j counts more e l d w = tt
 told_last report s0 (Some bs0) s t next None new before now later h i j counts more e l d w = absurd d
 told_last report s0 (Some bs0) s t next (Some bs) None before now later h i j counts more e l d w = absurd cc
-told_last report s0 (Some bs0) s t next (Some bs) (Some rest) before now later h i j counts more e l d w =
-    let same : bs ≡ next ∷ [] = same_Some _ _ e ∙ none_follow next rest l in
-    leads_end report s0 bs0 t before later h j more
-    (leads_step report s0 bs0 s t next [] before now later h i j counts more (subst (λ (xs : List Next). Leads report s0 bs0 s xs before now h i counts) same d) w)
+told_last report s0 (Some bs0) s t next (Some bs) (Some rest) before now later h i j counts more e l d w = grind (arith, nat_tests, same_Some, none_follow, leads_end, leads_step)
 
 -- there are no more batches
 pub told_end : (report : Report) (s0 : State) (told0 : Option (List Next)) (s : State) (next : Next) (old new : Option (List Next)) (before now : Option (List ℕ)) (h i : Option (List Entry)) (counts : Counts)
@@ -247,14 +232,23 @@ told_end report s0 (Some bs0) s next (Some bs) (Some rest) before now h i counts
     let same : bs ≡ [] = same_Some _ _ e ∙ end_follows next rest m in
     leads_end report s0 bs0 s before now h i counts (subst (λ (xs : List Next). Leads report s0 bs0 s xs before now h i counts) same d)
 
+rest_all : (P : Next → Type 0) (xs ys : List Next) → All P (xs ++ ys) → All P ys
+rest_all P [] ys h = h
+rest_all P (x ∷ xs) ys h = rest_all P xs ys (All-tail P x (xs ++ ys) h)
+
+-- the batches that are left keep their ranges
+left_all : (report : Report) (header : HeaderShape) (s0 : State) (ts : List Token) (s : State) (bs : List Next) (before now : Option (List ℕ)) (h i : Option (List Entry)) (counts : Counts) → Leads report s0 (batches (rules_of header MAX_ITEMS) ts) s bs before now h i counts → All (IsNext (rules_of header MAX_ITEMS)) bs
+left_all report header s0 ts s bs before now h i counts l =
+    rest_all (IsNext (rules_of header MAX_ITEMS)) l.done bs (subst (λ (xs : List Next). All (IsNext (rules_of header MAX_ITEMS)) xs) l.all (batches_keep_ranges (rules_of header MAX_ITEMS) ts))
+
 -- no more batches were read
-pub told_unread : (report : Report) (header : HeaderShape) (s0 t : State) (told0 : Option (List Next)) (s : State) (toks : Option (List Token)) (before now : Option (List ℕ)) (h i j : Option (List Entry)) (counts : Counts) (fault : SessionFault)
-    → IsSound MAX_EDGES s → s.graph.vertices ≡ header.n → LeadsTold report s0 told0 s (option_map (batches (rules_of header MAX_ITEMS)) toks) before now h i counts → RunsBatches report s0 t told0 before now h j (Err fault)
-told_unread report header s0 t None s toks before now h i j counts fault sound e d = tt
-told_unread report header s0 t (Some bs0) s None before now h i j counts fault sound e d = absurd d
-told_unread report header s0 t (Some bs0) s (Some ts) before now h i j counts fault sound e d =
-    let there = some_states header s (batches (rules_of header MAX_ITEMS) ts) sound e (batches_keep_ranges (rules_of header MAX_ITEMS) ts) in
-    leads_some report s0 bs0 s (batches (rules_of header MAX_ITEMS) ts) there.0 before now now h i counts d there.1 (prefix_none now now (batch_lines report (counts.batches + 1) s (batches (rules_of header MAX_ITEMS) ts) there.0) refl)
+pub told_unread : (report : Report) (header : HeaderShape) (s0 t : State) (toks : Option (List Token)) (s : State) (told : Option (List Next)) (before now : Option (List ℕ)) (h i j : Option (List Entry)) (counts : Counts) (fault : SessionFault)
+    → IsSound MAX_EDGES s → s.graph.vertices ≡ header.n → LeadsTold report s0 (option_map (batches (rules_of header MAX_ITEMS)) toks) s told before now h i counts → RunsBatches report s0 t (option_map (batches (rules_of header MAX_ITEMS)) toks) before now h j (Err fault)
+told_unread report header s0 t None s told before now h i j counts fault sound e d = tt
+told_unread report header s0 t (Some ts) s None before now h i j counts fault sound e d = absurd d
+told_unread report header s0 t (Some ts) s (Some bs) before now h i j counts fault sound e d =
+    let there = some_states header s bs sound e (left_all report header s0 ts s bs before now h i counts d) in
+    leads_some report s0 (batches (rules_of header MAX_ITEMS) ts) s bs there.0 before now now h i counts d there.1 (prefix_none now now (batch_lines report (counts.batches + 1) s bs there.0) refl)
 
 -- a prefix of the text of one batch was written
 some_lines : (report : Report) (header : HeaderShape) (s0 : State) (bs0 : List Next) (s : State) (next : Next) (rest : List Next) (before now later : Option (List ℕ)) (h i : Option (List Entry)) (counts : Counts) → IsSound MAX_EDGES s → s.graph.vertices ≡ header.n
@@ -278,17 +272,17 @@ some_more (Refused line EdgeLimit) rest m = (rest, refl)
 some_more (Refused line PhaseLimit) rest m = (rest, refl)
 some_more End rest m = absurd (m tt)
 
-pub told_stopped : (report : Report) (header : HeaderShape) (s0 t : State) (told0 : Option (List Next)) (s : State) (next : Next) (toks : Option (List Token)) (new : Option (List Next)) (before now later : Option (List ℕ)) (h i j : Option (List Entry)) (counts : Counts) (fault : SessionFault)
-    → IsSound MAX_EDGES s → s.graph.vertices ≡ header.n → option_map (batches (rules_of header MAX_ITEMS)) toks ≡ option_map (behind_batch next) new → (IsEnd next → ⊥) → LeadsTold report s0 told0 s (option_map (batches (rules_of header MAX_ITEMS)) toks) before now h i counts
-    → WroteSome report (counts.batches + 1) next s now later → RunsBatches report s0 t told0 before later h j (Err fault)
-told_stopped report header s0 t None s next toks new before now later h i j counts fault sound e f m d p = tt
-told_stopped report header s0 t (Some bs0) s next None new before now later h i j counts fault sound e f m d p = absurd d
-told_stopped report header s0 t (Some bs0) s next (Some ts) None before now later h i j counts fault sound e f m d p = absurd cc
-told_stopped report header s0 t (Some bs0) s next (Some ts) (Some rest) before now later h i j counts fault sound e f m d p =
+pub told_stopped : (report : Report) (header : HeaderShape) (s0 t : State) (toks : Option (List Token)) (s : State) (next : Next) (told new : Option (List Next)) (before now later : Option (List ℕ)) (h i j : Option (List Entry)) (counts : Counts) (fault : SessionFault)
+    → IsSound MAX_EDGES s → s.graph.vertices ≡ header.n → told ≡ option_map (behind_batch next) new → (IsEnd next → ⊥) → LeadsTold report s0 (option_map (batches (rules_of header MAX_ITEMS)) toks) s told before now h i counts
+    → WroteSome report (counts.batches + 1) next s now later → RunsBatches report s0 t (option_map (batches (rules_of header MAX_ITEMS)) toks) before later h j (Err fault)
+told_stopped report header s0 t None s next told new before now later h i j counts fault sound e f m d p = tt
+told_stopped report header s0 t (Some ts) s next None new before now later h i j counts fault sound e f m d p = absurd d
+told_stopped report header s0 t (Some ts) s next (Some bs) None before now later h i j counts fault sound e f m d p = absurd cc
+told_stopped report header s0 t (Some ts) s next (Some bs) (Some rest) before now later h i j counts fault sound e f m d p =
     let more = some_more next rest m in
-    let same : batches (rules_of header MAX_ITEMS) ts ≡ next ∷ more.0 = same_Some _ _ f ∙ more.1 in
-    some_lines report header s0 bs0 s next more.0 before now later h i counts sound e (subst (λ (xs : List Next). All (IsNext (rules_of header MAX_ITEMS)) xs) same (batches_keep_ranges (rules_of header MAX_ITEMS) ts))
-    (subst (λ (xs : List Next). Leads report s0 bs0 s xs before now h i counts) same d) p
+    let same : bs ≡ next ∷ more.0 = same_Some _ _ f ∙ more.1 in
+    some_lines report header s0 (batches (rules_of header MAX_ITEMS) ts) s next more.0 before now later h i counts sound e (subst (λ (xs : List Next). All (IsNext (rules_of header MAX_ITEMS)) xs) same (left_all report header s0 ts s bs before now h i counts d))
+    (subst (λ (xs : List Next). Leads report s0 (batches (rules_of header MAX_ITEMS) ts) s xs before now h i counts) same d) p
 
 -- a batch that isn't the last takes some of the reader's budget
 pub takes_some : (next : Next) (old new : ℕ) → TakesBatch next old new → (IsEnd next → ⊥) → is_last_batch next ≡ false → new < old
@@ -309,17 +303,24 @@ not_end (Items batch) h m = m
 not_end (Refused line reason) h m = m
 not_end End h m = h refl
 
--- there are never more batches than the reader's budget allows, nor more refused ones than batches
-pub few_more : (old new budget rest limit : ℕ) → new ≡ old + 1 → rest < budget → old + budget ≤ limit → new + rest ≤ limit
-few_more old new budget rest limit e l few = omega (arith, e, l, few)
+-- so many batches were counted that the reader's budget allows them, and no more refused ones than batches
+pub record Fit (counts : Counts) (budget : ℕ) : Type 0 where
+  pub few : counts.batches + budget ≤ 2 ^ 30 + 1
+  pub fewer : counts.refused ≤ counts.batches
 
 one_if_small : (b : Bool) → one_if b ≤ 1
 one_if_small true = omega arith
 one_if_small false = omega arith
 
-pub fewer_more : (s : State) (b : Next) (t : Step) (old new : Counts) → new ≡ counted s b t old → old.refused ≤ old.batches → new.refused ≤ new.batches
-fewer_more s b t old new e few =
+-- the counts still fit after one more batch, which took some of the budget
+pub fit_more : (s : State) (b : Next) (t : Step) (old new : Counts) (budget rest now : ℕ) → new ≡ counted s b t old → rest < budget → now ≤ rest → Fit old budget → Fit new now
+fit_more s b t old new budget rest now e less takes fit =
     let x = ap (λ (c : Counts). c.refused) e in
     let y = ap (λ (c : Counts). c.batches) e in
     let z = one_if_small (is_refused s b) in
-    omega (arith, x, y, z, few)
+    record { few = omega (arith, y, less, takes, fit.few); fewer = omega (arith, x, y, z, fit.fewer) }
+
+-- the batches after `next` are those of other rules that are the same, with one read ahead
+pub follow_on : (a rules : Rules) (next : Next) (old : Option (List Next)) (new : Reading) (left : Option (List ℕ)) (later : Option (List Next))
+    → old ≡ option_map (behind_batch next) (batches_left a new left) → a ≡ rules → batches_left rules new left ≡ later → old ≡ option_map (behind_batch next) later
+follow_on a rules next old new left later e same f = e ∙ (ap (λ (r : Rules). option_map (behind_batch next) (batches_left r new left)) same ∙ ap (option_map (behind_batch next)) f)

@@ -36,6 +36,7 @@ use Rattle.kc_session.specs.declared.ended.Ended.{Ended}
 use Rattle.kc_session.specs.declared.fault.SessionFault.{SessionFault}
 use Rattle.kc_session.specs.declared.report.Report.TheVariants.{Lines}
 use Rattle.std.proofs.lemmas.Option.{same_Some}
+use Rattle.std.proofs.lemmas.Bool.Decides.{nat_tests}
 use Rattle.kc_session.specs.Agents.{AgentShape, questions}
 use Rattle.kc_session.specs.private.Audiences.{longer}
 use Rattle.kc_session.specs.Asking.{Fit, HaveRun, AreClosed, agents_for}
@@ -56,10 +57,7 @@ use Rattle.kc_session.proofs.Settles.{start_states}
 
 -- if a history ends at the state before a batch, then with the batch's entries it ends at the state after it
 end_stay : (n : ℕ) (history : List Entry) (s : State) (t : Step) → IsHistoryOf n history s → t ≡ stay s → IsHistoryOf n (history ++ entries_in t.phases) t.state
-end_stay n history s t h is =
-    let same : history ≡ history ++ entries_in t.phases = sym (append-nil history) ∙ ap (λ (z : Step). history ++ entries_in z.phases) (sym is) in
-    let there : s ≡ t.state = ap (λ (z : Step). z.state) (sym is) in
-    subst (λ (z : List Entry × State). IsHistoryOf n z.0 z.1) (λ i. (same i, there i)) h
+end_stay n history s t h is = grind (arith, nat_tests, append-nil)
 
 end_cleaned : (n : ℕ) (history : List Entry) (s : State) (c : Cleaned) (r : Option EngineFault) (t : Step) → IsSound MAX_EDGES s → IsCleaning s.graph c → IsHistoryOf n history s → IsAfterCleaned s c r t → IsHistoryOf n (history ++ entries_in t.phases) t.state
 end_cleaned n history s c (Some fault) t sound clean h a = end_stay n history s t h a
@@ -126,10 +124,6 @@ head_prefix header (Some ls) before now fault p =
       session = is_session header ls there.0 (zero_lists header.asks) there.1 (some_replies header.n (history_of there.0) header.asks);
       prefix = prefix_longer before now (head_text header.n) _ p;
     }
-
-pub head_written : (header : HeaderShape) (toks : Option (List Token)) (before now : Option (List ℕ)) (fault : SessionFault) → now ≡ append_known before (head_text header.n)
-    → WritesSession session_text header (option_map (batches (rules_of header MAX_ITEMS)) toks) before now (Err fault)
-head_written header toks before now fault e = head_prefix header toks before now fault (prefix_all before now (head_text header.n) e)
 
 -- the head was written, and the part after it
 pub after_head : (header : HeaderShape) (told : Option (List Next)) (before now later : Option (List ℕ)) (result : Result Ended SessionFault) → now ≡ append_known before (head_text header.n) → WritesSession body_text header told now later result
@@ -246,12 +240,7 @@ without_asks p n asks told before now result none w = subst (λ (xs : List Ask).
 
 -- the replies of agents that were opened, ran and were closed
 pub session_replies : (store : StoreShape) (n : ℕ) (h i : List Entry) (asks : List Ask) (first last : List AgentShape) (lists : List (List Reply)) → store.vertices ≡ n → first ≡ agents_for store h 0 asks → HaveRun first last → AreClosed i last lists → AreReplies n i asks lists
-session_replies store n h i asks first last lists size fresh ran closed =
-    let run = subst (λ (xs : List AgentShape). HaveRun xs last) fresh ran in
-    record {
-      fit = closed_fit store h i 0 asks last lists run closed;
-      explained = subst (λ (k : ℕ). All (AreExplained k i 0) lists) size (closed_explained store h i 0 asks last lists run closed);
-    }
+session_replies store n h i asks first last lists size fresh ran closed = grind (arith, nat_tests, closed_fit, closed_explained)
 
 -- the replies are few
 fit_few : (n : ℕ) (asks : List Ask) (lists : List (List Reply)) → Fit asks lists → All (IsAsk n) asks → (replies_in lists ≤ length asks * 65536) × (length lists ≡ length asks)

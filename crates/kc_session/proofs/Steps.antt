@@ -1,5 +1,5 @@
 -- One batch: it has exactly one step, and keeps the facts of each state.
-use Rattle.std.proofs.Common.{ℕ, ◌≡◌, List, [], refl, sym, ap, subst, ◌∙◌, arith}
+use Rattle.std.proofs.Common.{ℕ, ◌≡◌, List, refl, sym, ap, ◌∙◌, arith}
 use Rattle.std.specs.Prelude.{Option, Some, None}
 use Rattle.kc_graph.specs.declared.cleaning.Cleaned.{Cleaned}
 use Rattle.kc_graph.specs.declared.items.Item.{Item}
@@ -17,9 +17,9 @@ use Rattle.kc_engine.specs.States.{State, IsSound}
 use Rattle.kc_engine.specs.Batches.{IsCleaning}
 use Rattle.kc_engine.proofs.lemmas.Batches.{start_is_sound, batch_has_one_state, batch_keeps_sound, vertices_after}
 use Rattle.kc_engine.proofs.lemmas.Phases.{phases_are_one}
-use Rattle.std.proofs.lemmas.List.Elements.{All-nil}
+use Rattle.std.proofs.lemmas.Bool.Decides.{nat_tests}
 use Rattle.kc_store.specs.declared.roles.WriterState.{WriterState}
-use Rattle.kc_store.specs.States.{opened, AllMovesIn}
+use Rattle.kc_store.specs.States.{opened}
 use Rattle.kc_engine.specs.Showing.{IsAbreast}
 use Rattle.kc_session.specs.States.{Step, stay, start, refusal_of, IsAfterCleaned, IsStep}
 
@@ -57,10 +57,7 @@ some_step s header End k e i = (stay s, refl)
 
 -- a batch keeps the facts of each state
 pub sound_step : (s : State) (header : HeaderShape) (b : Next) (t : Step) → IsSound MAX_EDGES s → s.graph.vertices ≡ header.n → IsNext (rules_of header MAX_ITEMS) b → IsStep s b t → IsSound MAX_EDGES t.state × (t.state.graph.vertices ≡ header.n)
-sound_step s header (Items batch) t k e i a =
-    let c = cleaned s.graph batch.items in
-    let x = sound_cleaned s c (refusal_of s c) t k (cleaning s header batch.items batch.line e i) refl a in
-    (x.0, x.1 ∙ e)
+sound_step s header (Items batch) t k e i a = grind (arith, nat_tests, sound_cleaned, cleaning, batch.items, batch.line)
 sound_step s header (Refused line reason) t k e i a = rw a (k, e)
 sound_step s header End t k e i a = rw a (k, e)
 
@@ -82,10 +79,4 @@ one_step s header End t u k e i a b = a ∙ sym b
 
 -- a store and an engine that were just opened
 pub opened_is_abreast : (p : Profile) (n : ℕ) (w : WriterState) (s : State) → w ≡ opened n 0 → s ≡ start p n → IsAbreast w s
-opened_is_abreast p n w s e f = subst (λ (z : WriterState × State). IsAbreast z.0 z.1) (λ i. (sym e i, sym f i))
-    record {
-      vertices = refl;
-      phase = refl;
-      history = record { graph = refl; levels = refl };
-      idle = record { published = refl; cleared = All-nil (AllMovesIn []); loans = refl };
-    }
+opened_is_abreast p n w s e f = grind (arith, nat_tests)

@@ -2,7 +2,7 @@
 use Rattle.std.proofs.Common.{ℕ, suc, ◌≡◌, ◌<◌, ◌+◌, List, ◌∷◌, [], ◌++◌, take, length, get_or, max, refl, sym, ap, ◌∙◌, arith}
 use Rattle.std.specs.List.{sum_by, fold}
 use Rattle.std.proofs.Math.Seq.{take-suc, take-length}
-use Rattle.std.proofs.lemmas.List.Sums.{sum_by_push, sum_by_more_le}
+use Rattle.std.proofs.lemmas.List.Sums.{sum_by_push}
 use Rattle.kc_session.specs.Ended.{greatest}
 
 -- a sum, while it is added up
@@ -15,10 +15,6 @@ sum_next X f xs i d old more new lt h m e =
 
 pub sum_all : (X : Type 0) (f : X → ℕ) (xs : List X) (i old : ℕ) → i ≡ length xs → old ≡ sum_by f (take i xs) → old ≡ sum_by f xs
 sum_all X f xs i old all h = h ∙ ap (λ (ys : List X). sum_by f ys) (ap (λ j. take j xs) all ∙ take-length xs)
-
--- one more item stays within the whole sum
-pub sum_room : (X : Type 0) (f : X → ℕ) (xs : List X) (i : ℕ) (d : X) (old more limit : ℕ) → i < length xs → old ≡ sum_by f (take i xs) → more ≡ f (get_or xs i d) → sum_by f xs < limit → (more < limit) × (old + more < limit)
-sum_room X f xs i d old more limit lt h m few = let within = sum_by_more_le f xs i d lt in (omega (arith, h, m, few, within), omega (arith, h, m, few, within))
 
 -- the greatest item, while it is searched
 fold_push : (a : ℕ) (xs : List ℕ) (x : ℕ) → fold max a (xs ++ x ∷ []) ≡ max (fold max a xs) x

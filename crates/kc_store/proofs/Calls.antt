@@ -1,11 +1,10 @@
 -- The steps as the calls make them: of any seat that is the writer's, a marker's or a pass's.
-use Rattle.std.proofs.Common.{◌≡◌, ◌≢◌, ℕ, ◌+◌, ◌*◌, ◌^◌, ◌≤◌, true, false, Some, ◌<◌, List, [], Contains, sym, refl, ap, ◌∙◌, subst}
+use Rattle.std.proofs.Common.{◌≡◌, ◌≢◌, ℕ, ◌+◌, ◌*◌, ◌^◌, ◌≤◌, true, false, Some, ◌<◌, List, [], Contains, sym, refl, ap, ◌∙◌, subst, arith}
+use Rattle.std.proofs.lemmas.Bool.Decides.{nat_tests}
 use mathlib.Core.List.{IsPrefix}
 use Rattle.atomic_table.specs.Table.{step, Allows}
 use Rattle.atomic_table.specs.declared.shared.Seat.{Seat}
 use Rattle.kc_words.specs.Packed.{packed, unpacked}
-use Rattle.kc_graph.specs.declared.limits.TheConstants.{MAX_VERTICES}
-use Rattle.kc_history.specs.declared.limits.TheConstants.{MAX_PHASE}
 use Rattle.kc_history.specs.declared.entries.Entry.{Entry}
 use Rattle.kc_history.specs.private.Ends.{level_of}
 use Rattle.kc_groups.specs.declared.plans.PhasePlan.{PhasePlan}
@@ -13,7 +12,7 @@ use Rattle.kc_store.specs.declared.roles.WriterState.{WriterState}
 use Rattle.kc_store.specs.declared.roles.MarkerState.{MarkerState}
 use Rattle.kc_store.specs.declared.roles.Role.{Role}
 use Rattle.kc_store.specs.declared.roles.Role.TheVariants.{Writes, Marks, Reads, Looks, FoundBelow}
-use Rattle.kc_store.specs.Plans.{Move, IsFormed}
+use Rattle.kc_store.specs.Plans.{Move}
 use Rattle.kc_store.specs.private.Plans.{IsMoveAt}
 use Rattle.kc_store.specs.private.Rule.{IsKept}
 use Rattle.kc_store.specs.private.Seats.{Sat}
@@ -157,12 +156,4 @@ third_done slots place v word found old mid new from went h =
 
 -- the writer's seat after a phase began
 pub begun_writer : (old new : Seat ℕ Role) (plan : PhasePlan) → IsWriter old → new.table_id ≡ old.table_id → new.me ≡ (at_writer (with_phase plan) old.me.0, old.me.1) → CanBegin (writer_of old.me.0) plan → IsWriter new
-begun_writer old new plan is table me may =
-    let after = after_writer (with_phase plan) old.me new.me is.me_is me in
-    let state = after.1 in record {
-      me_is = after.0;
-      sized = ap (λ z. z.words) table ∙ (is.sized ∙ ap (λ (s : WriterState). 3 * s.vertices + 1) (sym state));
-      small = subst (λ (s : WriterState). s.vertices ≤ MAX_VERTICES) (sym state) is.small;
-      phase_in = subst (λ (s : WriterState). s.phase ≤ MAX_PHASE) (sym state) may.phase_in;
-      formed = subst (λ (s : WriterState). IsFormed s.vertices s.phase s.plan) (sym state) may.formed;
-    }
+begun_writer old new plan is table me may = grind (arith, nat_tests, after_writer, is.me_is, is.sized, is.small, may.phase_in, may.formed)

@@ -1,8 +1,10 @@
 -- A plan that is well formed, by its places; and what the calls ask, said so.
 use Rattle.std.proofs.Common.{ℕ, suc, zero, ◌+◌, ◌≡◌, ◌≢◌, ◌<◌, ◌≤◌, List, [], ◌∷◌, length, get_or, map, Option, Some, None, All, Contains, refl, ap, sym, ◌∙◌, arith, subst, ⊎_elim, lt_of_not-le}
-use mathlib.Core.Logic.{dite}
-use native.Mathlib.Decide.{dec_le}
 use Rattle.std.specs.List.{slice_get}
+use Rattle.std.proofs.lemmas.Option.{slice_get-get_or}
+use Rattle.std.proofs.lemmas.List.Elements.{All-contains}
+use Rattle.std.proofs.lemmas.List.{get_or_past}
+use Rattle.std.proofs.lemmas.Bool.Decides.{nat_tests}
 use Rattle.kc_graph.specs.Numbers.{RisesFrom, AllBelow}
 use Rattle.kc_history.specs.declared.limits.TheConstants.{MAX_PHASE}
 use Rattle.kc_history.specs.declared.entries.Entry.{Entry}
@@ -151,16 +153,6 @@ can_begin s plan may =
           sym (at_end s.vertices s.history m.vertex good.inside) ∙ old;
     }
 
--- an item that there is
-pub there : {A : Type 0} → (xs : List A) (i : ℕ) (d : A) → i < length xs → slice_get xs i ≡ Some (get_or xs i d)
-there [] i d lt = absurd (omega (arith, lt))
-there (x ∷ xs) zero d lt = refl
-there (x ∷ xs) (suc i) d lt = there xs i d (omega (arith, lt))
-
--- a loan is listed: what holds of all holds of it
-pub of_listed : {A : Type 0} → (P : A → Type 0) (xs : List A) (x : A) → All P xs → Contains xs x → P x
-of_listed P xs x all on = subst P on.2 (all on.0 x on.1)
-
 -- what publishes a group, said by places
 pub record CanPublish (s : WriterState) (g : ℕ) : Type 0 where
   pub group : Entry
@@ -171,11 +163,11 @@ pub record CanPublish (s : WriterState) (g : ℕ) : Type 0 where
 
 pub can_publish : (s : WriterState) (g : ℕ) → MayPublish s g → CanPublish s g
 can_publish s g may =
-    let at = there s.plan.groups g s.plan.quiet may.inside in record {
+    let at = slice_get-get_or s.plan.groups g s.plan.quiet may.inside in record {
       group = group_at s.plan g;
       group_is = ap (slice_get s.plan.groups) (sym may.next) ∙ at;
       at = at;
-      none_out = λ l on same. of_listed (λ (x : Loan). x.group ≢ g) s.loans l may.none_out on (same ∙ sym may.next);
+      none_out = λ l on same. All-contains (λ (x : Loan). x.group ≢ g) s.loans l may.none_out on (same ∙ sym may.next);
       all_marked = λ i m is. let r = got (group_at s.plan g).moves i m m is in subst (λ (z : Move). Contains s.marked z.vertex) r.1 (may.all_marked i m r.0);
     }
 
@@ -190,26 +182,16 @@ pub record IsPlaced (n : ℕ) (plan : PhasePlan) (g i : ℕ) : Type 0 where
   pub label_is : group.label ≡ Some label
   pub label_in : label < n
 
-beyond : {A : Type 0} → (xs : List A) (i : ℕ) (d : A) → length xs ≤ i → get_or xs i d ≡ d
-beyond [] i d le = refl
-beyond (x ∷ xs) zero d le = absurd (omega (arith, le))
-beyond (x ∷ xs) (suc i) d le = beyond xs i d (omega (arith, le))
-
 -- where the group at place g has a move i, there is such a group: the quiet entry has no moves
 group_in : (n p : ℕ) (plan : PhasePlan) (g i : ℕ) → IsFormed n p plan → i < length (group_at plan g).moves → g < length plan.groups
-group_in n p plan g i formed few = dite (dec_le (length plan.groups) g)
-    (λ le.
-    let quiet : group_at plan g ≡ plan.quiet = beyond plan.groups g plan.quiet le in
-    let none : length (group_at plan g).moves ≡ 0 = ap (λ (e : Entry). length e.moves) quiet ∙ ap (length {A = Move}) formed.no_moves in
-    absurd (omega (arith, few, none)))
-    (λ not. lt_of_not-le not)
+group_in n p plan g i formed few = grind (arith, nat_tests, get_or_past, lt_of_not-le, formed.no_moves)
 
 pub placed : (n p : ℕ) (plan : PhasePlan) (g i : ℕ) → IsFormed n p plan → i < length (group_at plan g).moves → IsPlaced n plan g i
 placed n p plan g i formed few =
     let e : Entry = group_at plan g in
     let m : Move = get_or e.moves i record { vertex = 0; old = 0; new = 0 } in
-    let group = there plan.groups g plan.quiet (group_in n p plan g i formed few) in
-    let at = there e.moves i record { vertex = 0; old = 0; new = 0 } few in
+    let group = slice_get-get_or plan.groups g plan.quiet (group_in n p plan g i formed few) in
+    let at = slice_get-get_or e.moves i record { vertex = 0; old = 0; new = 0 } few in
     let gr = formed.groups g e group in record {
       group = e;
       move = m;
@@ -223,10 +205,7 @@ placed n p plan g i formed few =
 
 -- the same for a move of a lent range
 pub placed_lent : (n p : ℕ) (plan : PhasePlan) (g i to : ℕ) → IsFormed n p plan → HasRange plan g to → i < to → IsPlaced n plan g i
-placed_lent n p plan g i to formed range lt =
-    let r = got plan.groups g range.group plan.quiet range.group_is in
-    let le = range.to_in in
-    placed n p plan g i formed (subst (λ (e : Entry). i < length e.moves) (sym r.1) (omega (arith, lt, le)))
+placed_lent n p plan g i to formed range lt = grind (arith, nat_tests, got, placed, range.group, range.group_is, range.to_in)
 
 pub label_same : (a b : ℕ) → Some a ≡ Some b → a ≡ b
 label_same a b is = cc

@@ -1,6 +1,7 @@
 -- How the history grows: whole phases, and then the open one.
 use Rattle.std.proofs.Common.{◌≡◌, ℕ, zero, suc, ◌+◌, List, [], ◌∷◌, ◌++◌, take, length, Some, None, sym, refl, ap, ◌∙◌, subst, inr, ⊎_elim, arith, append_assoc, append-nil}
 use Rattle.std.specs.List.{slice_get}
+use Rattle.std.proofs.lemmas.Bool.Decides.{nat_tests}
 use Rattle.kc_history.specs.declared.entries.Entry.{Entry}
 use Rattle.kc_history.specs.private.Ends.{begins_phase, phases_in}
 use Rattle.kc_groups.specs.declared.plans.PhasePlan.{PhasePlan}
@@ -25,13 +26,7 @@ take_snoc (x ∷ xs) zero e is = let s : x ≡ e = cc in ap (λ (z : Entry). z �
 take_snoc (x ∷ xs) (suc k) e is = ap (λ (zs : List Entry). x ∷ zs) (take_snoc xs k e is)
 
 pub take_more : (plan : PhasePlan) (k : ℕ) (e : Entry) → slice_get plan.groups k ≡ Some e → take (k + 1 + 1) (entries_of plan) ≡ take (k + 1) (entries_of plan) ++ e ∷ []
-take_more plan k e is =
-    let s : suc k ≡ k + 1 = omega arith in
-    subst (λ (j : ℕ). take (j + 1) (entries_of plan) ≡ take j (entries_of plan) ++ e ∷ []) s
-    (subst (λ (j : ℕ). take j (entries_of plan) ≡ take (suc k) (entries_of plan) ++ e ∷ []) (suc_is (suc k)) (take_snoc (entries_of plan) (suc k) e is))
-  where
-    suc_is : (j : ℕ) → suc j ≡ j + 1
-    suc_is j = omega arith
+take_more plan k e is = grind (arith, nat_tests, take_snoc)
 
 entries_snoc : (plans : List PhasePlan) (plan : PhasePlan) → entries_in (plans ++ plan ∷ []) ≡ entries_in plans ++ entries_of plan
 entries_snoc [] plan = append-nil (entries_of plan)
@@ -78,12 +73,4 @@ grown_begun n before phase log old new count all now formed h = ⊎_elim
 
 -- the next group is published
 pub grown_published : (n before : ℕ) (log : List Entry) (plan : PhasePlan) (count : ℕ) (e : Entry) → slice_get plan.groups count ≡ Some e → IsGrown n before log plan count → IsGrown n before (log ++ e ∷ []) plan (count + 1)
-grown_published n before log plan count e is h = ⊎_elim
-    (λ (t : (log ≡ []) × (plan ≡ empty_plan before) × (count ≡ 0)). let none : slice_get plan.groups count ≡ None = ap (λ (z : PhasePlan). slice_get z.groups count) t.1 in let clash : None ≡ Some e = sym none ∙ is in cc)
-    (λ (t : (whole : List PhasePlan) × AllFormed n before (whole ++ plan ∷ []) × (log ≡ entries_in whole ++ take (count + 1) (entries_of plan))).
-    inr (
-      t.0,
-      t.1,
-      ap (λ (zs : List Entry). zs ++ e ∷ []) t.2 ∙ (append_assoc (entries_in t.0) (take (count + 1) (entries_of plan)) (e ∷ []) ∙ ap (λ (zs : List Entry). entries_in t.0 ++ zs) (sym (take_more plan count e is))),
-    ))
-    h
+grown_published n before log plan count e is h = grind (arith, nat_tests, ⊎_elim, append_assoc, take_more)

@@ -1,5 +1,5 @@
 -- Opening the table, and the steps by which a pass or a marker comes and goes.
-use Rattle.std.proofs.Common.{◌≡◌, ◌≢◌, ◌⊎◌, ℕ, zero, suc, ◌+◌, ◌*◌, ◌<◌, ◌≤◌, Bool, true, false, List, [], ◌∷◌, ◌++◌, Option, Some, None, Contains, length, nat_eq, nat_lt, if◌then◌else◌, set, get_or, sym, refl, ap, ◌∙◌, subst, inl, inr, ⊎_elim, arith, le_refl, zero-le}
+use Rattle.std.proofs.Common.{◌≡◌, ◌≢◌, ◌⊎◌, ℕ, zero, suc, ◌+◌, ◌*◌, ◌<◌, ◌≤◌, Bool, true, false, List, [], ◌∷◌, ◌++◌, Option, Some, None, Contains, drop, length, nat_eq, nat_lt, if◌then◌else◌, set, get_or, sym, refl, ap, ◌∙◌, subst, inl, inr, ⊎_elim, arith, le_refl, zero-le}
 use Rattle.std.proofs.lemmas.Bool.Decides.{nat_tests}
 use Rattle.std.proofs.lemmas.List.Elements.{Contains-append_cases, Contains-append_left, Contains-append_right}
 use mathlib.Core.Option.{some, some-injective, some-ne-none}
@@ -16,21 +16,17 @@ use Rattle.kc_store.specs.declared.roles.Loan.{Loan}
 use Rattle.kc_store.specs.declared.roles.MarkerState.{MarkerState}
 use Rattle.kc_store.specs.declared.roles.Role.{Role}
 use Rattle.kc_store.specs.declared.roles.Role.TheVariants.{Spent, Writes, Marks, Reads, Looks, FoundBelow}
-use Rattle.kc_store.specs.private.Rule.{Fits, AllBegin, AreMarkedNoted, WriterHolds, MarkerHolds, SeatHolds, IsKept, AreOwnLoans, number_of}
+use Rattle.kc_store.specs.private.Rule.{Fits, AllBegin, AreMarkedNoted, MarksHold, WriterHolds, MarkerHolds, SeatHolds, IsKept, AreOwnLoans, number_of, rest_of}
 use Rattle.kc_store.specs.private.Seats.{Sat}
 use Rattle.kc_store.specs.Seats.{writer_of, marker_of, vertices_of, seen_of, made_of}
 use Rattle.kc_store.specs.States.{opened, with_joined, with_loan, marker_for, without_loan, with_returned}
-use Rattle.kc_store.specs.private.Steps.{first_role, new_pass, took_in, told, lender, lent_to, got_back}
+use Rattle.kc_store.specs.private.Steps.{first_role, new_pass, took_back, told, lender, lent_to}
 use Rattle.kc_store.proofs.Points.{before_itself}
-use Rattle.kc_store.proofs.Phases.{none_in}
+use Rattle.kc_store.proofs.Phases.{no_marks}
 use Rattle.kc_store.proofs.Seats.{seats_stay, own_set, reader_step}
 
 zero_fits : (n v k o p : ℕ) → 0 < n → k ≡ 0 → Fits n [] [] p v (unpacked k) o
-zero_fits n v k o p some_vertex is = subst (λ (z : ℕ). Fits n [] [] p v (unpacked z) o) (sym is) record {
-  label_in = some_vertex;
-  shown = λ le. refl;
-  unpublished = λ lt. absurd (omega (arith, lt));
-}
+zero_fits n v k o p some_vertex is = grind (arith, nat_tests)
 
 pub opens : (n p : ℕ) (ws : List ℕ) → 1 ≤ n → n ≤ MAX_VERTICES → p ≤ MAX_PHASE → length ws ≡ 3 * n + 1 → get_or ws 0 0 ≡ p → ((i : ℕ) → 0 < i → i < length ws → get_or ws i 0 ≡ 0) → IsKept n (opening ws [] (first_role n p))
 opens n p ws some_vertex small short sized head zeros = record {
@@ -45,20 +41,17 @@ opens n p ws some_vertex small short sized head zeros = record {
       small = small;
       phase_is = head;
       phase_in = short;
-      stamps = λ g lt. zeros (n + 1 + g) (omega arith) (omega (arith, sized, lt));
-      below = λ g. zero-le;
-      waiting = tt;
-      apart = tt;
+      stamps = record { words = λ g lt. zeros (n + 1 + g) (omega arith) (omega (arith, sized, lt)); below = λ g. zero-le };
+      groups = record { waiting = tt; apart = tt };
       vertices = λ v lt. zero_fits n v (get_or ws (v + 1) 0) (get_or ws (2 * n + 1 + v) 0) p (omega (arith, some_vertex)) (zeros (v + 1) (omega arith) (omega (arith, sized, lt)));
       olds = λ v lt. let is = zeros (2 * n + 1 + v) (omega arith) (omega (arith, sized, lt)) in omega (arith, is);
     };
-    formed = record { phase_is = refl; no_label = refl; no_moves = refl; groups = λ k e is. cc; ascend = λ k l e f lt a b. cc };
-    published_in = zero-le;
-    shown = λ k e v m lt is moves. absurd (omega (arith, lt));
-    notes = λ v on. absurd (none_in v on);
-    marks = λ v on. absurd (none_in v on);
-    marks_noted = λ v on. absurd (none_in v on);
-    clears = λ v on. absurd (none_in v on);
+    plan = record {
+      formed = record { phase_is = refl; no_label = refl; no_moves = refl; groups = λ k e is. cc; ascend = λ k l e f lt a b. cc };
+      published_in = zero-le;
+      shown = λ k e v m lt is moves. absurd (omega (arith, lt));
+    };
+    marks = no_marks n [] p ws;
     begin = tt;
   };
   seats = λ j v e. first j v e;
@@ -120,13 +113,8 @@ joined_writes n d seen ws p f = record {
   phases_are = f.phases_are;
   grown = f.grown;
   facts = f.facts;
-  formed = f.formed;
-  published_in = f.published_in;
-  shown = f.shown;
-  notes = f.notes;
+  plan = f.plan;
   marks = f.marks;
-  marks_noted = f.marks_noted;
-  clears = f.clears;
   begin = (p, f.begin);
 }
 
@@ -154,14 +142,14 @@ glues n id other vertices made d seen s r at apart at' =
       own = own_set (set s.views id w) other (Reads vertices seen made) Spent at' (λ k h. h) (own_set s.views id (Writes d) w at (λ k h. h) r.own);
     }
 
-pub glues_from : (key id other : ℕ) (me you : Sat) → me ≡ (Writes (writer_of me.0), []) → you ≡ (Reads (vertices_of you.0) (seen_of you.0) (made_of you.0), []) → Joins (IsKept key) id me.0 other you.0 (took_in me.0 you.0) Spent
-glues_from key id other me you is is' = subst (λ (m : Sat × Sat). Joins (IsKept key) id m.0.0 other m.1.0 (took_in m.0.0 m.1.0) Spent) (λ i. (sym is i, sym is' i))
+pub glues_from : (key id other : ℕ) (me you : Sat) → me ≡ (Writes (writer_of me.0), []) → you ≡ (Reads (vertices_of you.0) (seen_of you.0) (made_of you.0), []) → Joins (IsKept key) id me.0 other you.0 (took_back me.0 you.0) Spent
+glues_from key id other me you is is' = subst (λ (m : Sat × Sat). Joins (IsKept key) id m.0.0 other m.1.0 (took_back m.0.0 m.1.0) Spent) (λ i. (sym is i, sym is' i))
     (glues key id other (vertices_of you.0) (made_of you.0) (writer_of me.0) (seen_of you.0))
 
-pub glued_writer : (me you new : Sat) → me ≡ (Writes (writer_of me.0), []) → you ≡ (Reads (vertices_of you.0) (seen_of you.0) (made_of you.0), []) → new ≡ (took_in me.0 you.0, me.1)
+pub glued_writer : (me you new : Sat) → me ≡ (Writes (writer_of me.0), []) → you ≡ (Reads (vertices_of you.0) (seen_of you.0) (made_of you.0), []) → new ≡ (took_back me.0 you.0, me.1)
     → (new ≡ (Writes (writer_of new.0), [])) × (writer_of new.0 ≡ with_joined (seen_of you.0) (writer_of me.0))
 glued_writer me you new is is' e =
-    let n : new ≡ (Writes (with_joined (seen_of you.0) (writer_of me.0)), []) = e ∙ ap (λ (m : Sat × Sat). (took_in m.0.0 m.1.0, m.0.1)) (λ i. (is i, is' i)) in
+    let n : new ≡ (Writes (with_joined (seen_of you.0) (writer_of me.0)), []) = e ∙ ap (λ (m : Sat × Sat). (took_back m.0.0 m.1.0, m.0.1)) (λ i. (is i, is' i)) in
     (subst (λ (z : Sat). z ≡ (Writes (writer_of z.0), [])) (sym n) refl, ap (λ (z : Sat). writer_of z.0) n)
 
 -- a loan more
@@ -175,11 +163,7 @@ listed_first : (l : Loan) (ls : List Loan) → Contains (l ∷ ls) l
 listed_first l ls = (0, omega arith, refl)
 
 listed_cases : (l x : Loan) (ls : List Loan) → Contains (l ∷ ls) x → (l ≡ x) ⊎ Contains ls x
-listed_cases l x ls on = go on.0 on.1 on.2
-  where
-    go : (k : ℕ) → k < length (l ∷ ls) → get_or (l ∷ ls) k x ≡ x → (l ≡ x) ⊎ Contains ls x
-    go Rattle.std.proofs.Common.zero lt is = inl is
-    go (Rattle.std.proofs.Common.suc k) lt is = inr (k, omega (arith, lt), is)
+listed_cases l x ls on = grind (arith, nat_tests, on.0, on.1, on.2)
 
 others_lent : (n g from to : ℕ) (d : WriterState) (writer : ℕ) (ws : List ℕ) (j : ℕ) (v : Role) → j ≢ writer → SeatHolds n d writer ws j v → SeatHolds n (with_loan g from to d) writer ws j v
 others_lent n g from to d writer ws j Spent o k = tt
@@ -192,10 +176,7 @@ others_lent n g from to d writer ws j (Marks m) o k = record {
   plan_is = k.plan_is;
   early = k.early;
   late = k.late;
-  notes = k.notes;
   marks = k.marks;
-  marks_noted = k.marks_noted;
-  clears = k.clears;
 }
 others_lent n g from to d writer ws j (Reads vertices s made) o k = k
 others_lent n g from to d writer ws j (Looks q) o k = k
@@ -218,10 +199,7 @@ lends n id g from to d s r at =
       plan_is = refl;
       early = (published_flag g r.state.published).0;
       late = (published_flag g r.state.published).1;
-      notes = λ v on. absurd (none_in v on);
-      marks = λ v on. absurd (none_in v on);
-      marks_noted = λ v on. absurd (none_in v on);
-      clears = λ v on. absurd (none_in v on);
+      marks = no_marks n (drop r.state.published r.state.plan.groups) r.state.phase s.words;
     } in record {
       state = d';
       writer = r.writer;
@@ -230,13 +208,8 @@ lends n id g from to d s r at =
         phases_are = st.phases_are;
         grown = st.grown;
         facts = st.facts;
-        formed = st.formed;
-        published_in = st.published_in;
-        shown = st.shown;
-        notes = st.notes;
+        plan = st.plan;
         marks = st.marks;
-        marks_noted = st.marks_noted;
-        clears = st.clears;
         begin = st.begin;
       };
       seats = λ j v e. ⊎_elim (λ was. all j v was)
@@ -285,10 +258,7 @@ others_returned n a d writer ws j (Marks b) o m k = record {
   plan_is = k.plan_is;
   early = k.early;
   late = k.late;
-  notes = k.notes;
   marks = k.marks;
-  marks_noted = k.marks_noted;
-  clears = k.clears;
 }
 others_returned n a d writer ws j (Reads vertices s made) o m k = k
 others_returned n a d writer ws j (Looks q) o m k = k
@@ -296,6 +266,14 @@ others_returned n a d writer ws j (FoundBelow q) o m k = k
 
 both_noted : (marked noted more others : List ℕ) → AreMarkedNoted marked noted → AreMarkedNoted more others → AreMarkedNoted (marked ++ more) (noted ++ others)
 both_noted marked noted more others a b x on = ⊎_elim (λ (t : Contains marked x). Contains-append_left noted others x (a x t)) (λ (t : Contains more x). Contains-append_right noted others x (b x t)) (Contains-append_cases marked more x on)
+
+both_mark : (n : ℕ) (rest : List Entry) (p : ℕ) (ws ns ms cs ns' ms' cs' : List ℕ) → MarksHold n rest p ws ns ms cs → MarksHold n rest p ws ns' ms' cs' → MarksHold n rest p ws (ns ++ ns') (ms ++ ms') (cs ++ cs')
+both_mark n rest p ws ns ms cs ns' ms' cs' g h = record {
+  notes = λ v on. ⊎_elim (λ (t : Contains ns v). g.notes v t) (λ (t : Contains ns' v). h.notes v t) (Contains-append_cases ns ns' v on);
+  marks = λ v on. ⊎_elim (λ (t : Contains ms v). g.marks v t) (λ (t : Contains ms' v). h.marks v t) (Contains-append_cases ms ms' v on);
+  marks_noted = both_noted ms ns ms' ns' g.marks_noted h.marks_noted;
+  clears = λ v on. ⊎_elim (λ (t : Contains cs v). g.clears v t) (λ (t : Contains cs' v). h.clears v t) (Contains-append_cases cs cs' v on);
+}
 
 gives : (n id other : ℕ) (d : WriterState) (a : MarkerState) → Joins (IsKept n) id (Writes d) other (Marks a) (Writes (with_returned a d)) Spent
 gives n id other d a s r at apart at' =
@@ -312,13 +290,8 @@ gives n id other d a s r at apart at' =
         phases_are = st.phases_are;
         grown = st.grown;
         facts = st.facts;
-        formed = st.formed;
-        published_in = st.published_in;
-        shown = st.shown;
-        notes = λ v on. ⊎_elim (λ (h : Contains r.state.noted v). st.notes v h) (λ (h : Contains a.noted v). theirs.notes v h) (Contains-append_cases r.state.noted a.noted v on);
-        marks = λ v on. ⊎_elim (λ (h : Contains r.state.marked v). st.marks v h) (λ (h : Contains a.marked v). theirs.marks v h) (Contains-append_cases r.state.marked a.marked v on);
-        marks_noted = both_noted r.state.marked r.state.noted a.marked a.noted st.marks_noted theirs.marks_noted;
-        clears = λ v on. ⊎_elim (λ (h : Contains r.state.cleared v). st.clears v h) (λ (h : Contains a.cleared v). theirs.clears v h) (Contains-append_cases r.state.cleared a.cleared v on);
+        plan = st.plan;
+        marks = both_mark n (rest_of r.state) r.state.phase s.words r.state.noted r.state.marked r.state.cleared a.noted a.marked a.cleared st.marks theirs.marks;
         begin = st.begin;
       };
       seats = λ j v e. ⊎_elim (λ (t : (j ≡ other) × (Spent ≡ v)). subst (SeatHolds n d' r.writer s.words j) t.1 tt)
@@ -331,5 +304,5 @@ gives n id other d a s r at apart at' =
       own = own_set (set s.views id w) other (Marks a) Spent at' (λ k h. let z : None ≡ Some k = h in cc) (own_set s.views id (Writes d) w at (λ k h. h) r.own);
     }
 
-pub gives_from : (key id other : ℕ) (me you : Sat) → me ≡ (Writes (writer_of me.0), []) → you ≡ (Marks (marker_of you.0), []) → Joins (IsKept key) id me.0 other you.0 (got_back me.0 you.0) Spent
-gives_from key id other me you is is' = subst (λ (m : Sat × Sat). Joins (IsKept key) id m.0.0 other m.1.0 (got_back m.0.0 m.1.0) Spent) (λ i. (sym is i, sym is' i)) (gives key id other (writer_of me.0) (marker_of you.0))
+pub gives_from : (key id other : ℕ) (me you : Sat) → me ≡ (Writes (writer_of me.0), []) → you ≡ (Marks (marker_of you.0), []) → Joins (IsKept key) id me.0 other you.0 (took_back me.0 you.0) Spent
+gives_from key id other me you is is' = subst (λ (m : Sat × Sat). Joins (IsKept key) id m.0.0 other m.1.0 (took_back m.0.0 m.1.0) Spent) (λ i. (sym is i, sym is' i)) (gives key id other (writer_of me.0) (marker_of you.0))

@@ -1,5 +1,5 @@
 -- The level of a vertex at the end of a history is that of the last point.
-use Rattle.std.proofs.Common.{ℕ, ◌≡◌, ◌≢◌, ◌<◌, Bool, true, false, List, [], ◌∷◌, length, get_or, set, replicate, Option, Some, None, if◌then◌else◌, nat_eq, refl, ap, sym, ◌∙◌, arith, subst}
+use Rattle.std.proofs.Common.{ℕ, ◌≡◌, ◌<◌, List, [], ◌∷◌, length, get_or, set, Option, Some, None, if◌then◌else◌, nat_eq, refl, ap, sym, ◌∙◌, arith, subst}
 use Rattle.std.proofs.lemmas.Bool.Decides.{nat_tests}
 use Rattle.std.proofs.lemmas.List.{get_or-set_same, get_or-set_other, length-replicate, get_or-replicate}
 use Rattle.std.proofs.Math.ListN.{length-set}
@@ -11,15 +11,7 @@ use Rattle.kc_history.specs.private.Ends.{level_after, level_of}
 use Rattle.kc_store.specs.Plans.{Move}
 
 one_set : (x : List ℕ) (m : Move) (v : ℕ) → v < length x → get_or (set x m.vertex m.new) v 0 ≡ level_after (get_or x v 0) (if nat_eq m.vertex v then Some m else None)
-one_set x m v lt = go (nat_eq m.vertex v) refl
-  where
-    go : (b : Bool) → nat_eq m.vertex v ≡ b → get_or (set x m.vertex m.new) v 0 ≡ level_after (get_or x v 0) (if nat_eq m.vertex v then Some m else None)
-    go true t =
-        let e : m.vertex ≡ v = grind (arith, nat_tests, t) in
-        ap (λ (k : ℕ). get_or (set x k m.new) v 0) e ∙ (get_or-set_same x v m.new 0 lt ∙ ap (λ b. level_after (get_or x v 0) (if b then Some m else None)) (sym t))
-    go false t =
-        let n : v ≢ m.vertex = (λ s. let f : m.vertex ≡ v = sym s in grind (arith, nat_tests, t, f)) in
-        get_or-set_other x m.vertex v m.new 0 n ∙ ap (λ b. level_after (get_or x v 0) (if b then Some m else None)) (sym t)
+one_set x m v lt = grind (arith, nat_tests, get_or-set_same, get_or-set_other)
 
 after_both : (d e : ℕ) (o q : Option Move) → e ≡ level_after d q → level_after e o ≡ level_after d (or_else o q)
 after_both d e (Some m) q h = refl
@@ -43,10 +35,7 @@ after_entries x (e ∷ es) v lt =
 
 -- the level at the last point
 pub at_end : (n : ℕ) (es : List Entry) (v : ℕ) → v < n → get_or (levels_at n es (length es)) v 0 ≡ level_of 0 es v
-at_end n es v lt =
-    ap (λ (ts : List Entry). get_or (levels_after (replicate n 0) ts) v 0) (take-length es)
-    ∙ (after_entries (replicate n 0) es v (subst (λ k. v < k) (sym (length-replicate {A = ℕ} n 0)) lt)
-    ∙ ap (λ d. level_of d es v) (get_or-replicate {A = ℕ} n v 0 0 lt))
+at_end n es v lt = grind (arith, nat_tests, take-length, after_entries, length-replicate, get_or-replicate)
 
 pub ends_at : (n : ℕ) (es : List Entry) (v l : ℕ) → v < n → level_of 0 es v ≡ l → get_or (levels_at n es (length es)) v 0 ≡ l
 ends_at n es v l lt is = at_end n es v lt ∙ is

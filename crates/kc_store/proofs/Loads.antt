@@ -44,11 +44,7 @@ first n slots id v vertices made seen inside s r homes at bound =
       keeps,
       tt,
       reader_step n s r id (v + 1) (Reads vertices seen made) (Looks q) at (λ k h. h) record {
-        seen_in = mine.1;
-        from_in = before_itself r.state.history;
-        made_in = mine.2;
-        vertices_is = mine.0;
-        inside = inside;
+        reading = record { seen_in = mine.1; from_in = before_itself r.state.history; made_in = mine.2; vertices_is = mine.0; inside = inside };
         label_in = f.label_in;
         shown = λ le. record { point = r.state.history; after = before_itself r.state.history; within = before_itself r.state.history; level_is = f.shown le };
         unpublished = f.unpublished;
@@ -64,15 +60,15 @@ pub second : (n slots id : ℕ) (q : Pending) → Allows (IsKept n) slots id (Lo
 second n slots id q s r homes at bound =
     let h = r.seats id (Looks q) at in
     let i : ℕ = n + 1 + (unpacked q.word).label in
-    let found : get_or s.words i 0 ≡ stamp_of 0 r.state.history (unpacked q.word).label = r.writes.facts.stamps (unpacked q.word).label h.label_in in
+    let found : get_or s.words i 0 ≡ stamp_of 0 r.state.history (unpacked q.word).label = r.writes.facts.stamps.words (unpacked q.word).label h.label_in in
     dite (dec_le (unpacked q.word).phase (get_or s.words i 0))
     (λ le.
     let a = h.shown (subst (λ (k : ℕ). (unpacked q.word).phase ≤ k) found le) in
-    let before = before_both q.seen q.from a.point h.seen_in a.after in (
+    let before = before_both q.seen q.from a.point h.reading.seen_in a.after in (
       Reads q.vertices a.point q.made,
       keeps,
       tt,
-      reader_step n s r id i (Looks q) (Reads q.vertices a.point q.made) at (λ k h. h) (h.vertices_is, a.within, longer q.seen a.point q.made before h.made_in),
+      reader_step n s r id i (Looks q) (Reads q.vertices a.point q.made) at (λ k h. h) (h.reading.vertices_is, a.within, longer q.seen a.point q.made before h.reading.made_in),
       ((λ t. (a.point, refl, record { later = before; level_is = a.level_is })), (λ t. absurd (omega (arith, le, t)))),
     ))
     (λ late.
@@ -82,12 +78,8 @@ second n slots id q s r homes at bound =
       keeps,
       tt,
       reader_step n s r id i (Looks q) (FoundBelow q) at (λ k h. h) record {
-        seen_in = h.seen_in;
-        from_in = h.from_in;
-        made_in = h.made_in;
-        vertices_is = h.vertices_is;
-        inside = h.inside;
-        old = record { point = r.state.history; after = h.from_in; within = before_itself r.state.history; level_is = y.level_is ∙ sym y.old_is };
+        reading = h.reading;
+        old = record { point = r.state.history; after = h.reading.from_in; within = before_itself r.state.history; level_is = y.level_is ∙ sym y.old_is };
       },
       ((λ t. absurd (late t)), (λ t. refl)),
     ))
@@ -97,10 +89,10 @@ third n slots id q s r homes at bound =
     let h = r.seats id (FoundBelow q) at in
     let i : ℕ = 2 * n + 1 + q.vertex in
     let a = h.old in
-    let before = before_both q.seen q.from a.point h.seen_in a.after in (
+    let before = before_both q.seen q.from a.point h.reading.seen_in a.after in (
       Reads q.vertices a.point q.made,
       keeps,
       tt,
-      reader_step n s r id i (FoundBelow q) (Reads q.vertices a.point q.made) at (λ k h. h) (h.vertices_is, a.within, longer q.seen a.point q.made before h.made_in),
-      (r.writes.facts.olds q.vertex h.inside, (a.point, refl, record { later = before; level_is = a.level_is })),
+      reader_step n s r id i (FoundBelow q) (Reads q.vertices a.point q.made) at (λ k h. h) (h.reading.vertices_is, a.within, longer q.seen a.point q.made before h.reading.made_in),
+      (r.writes.facts.olds q.vertex h.reading.inside, (a.point, refl, record { later = before; level_is = a.level_is })),
     )

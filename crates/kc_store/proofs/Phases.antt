@@ -18,7 +18,7 @@ use Rattle.kc_store.specs.declared.roles.Role.TheVariants.{Spent, Writes, Marks,
 use Rattle.kc_store.specs.Plans.{Move, IsFormed}
 use Rattle.kc_store.specs.private.Plans.{group_of}
 use Rattle.kc_store.specs.States.{with_entry_if, with_phase}
-use Rattle.kc_store.specs.private.Rule.{Waits, AllWait, ApartFrom, Facts, LookHolds, BelowHolds, AllNoted, AllMarked, IsNoted, AllCleared, AllShown, IsSettled, WriterHolds, SeatHolds, IsKept, rest_of}
+use Rattle.kc_store.specs.private.Rule.{Waits, AllWait, ApartFrom, Facts, LookHolds, BelowHolds, AllNoted, AllMarked, IsNoted, AllCleared, MarksHold, AllShown, IsUnmoved, WriterHolds, SeatHolds, IsKept, rest_of}
 use Rattle.kc_store.specs.private.Steps.{publishes, begins}
 use Rattle.kc_store.proofs.Points.{before_more, waits_found, group_here, group_past, group_label, label_found, apart_found, level_moved, level_stays}
 use Rattle.kc_store.proofs.Publishing.{mark, publish, publish_look, publish_below, maybe_cases}
@@ -38,8 +38,11 @@ group_more e es g f apart named is =
 no_none : (A : Type 0) (B : Type 0) (b : B) → None ≡ Some b → A
 no_none A B b h = cc
 
-pub none_in : (v : ℕ) → Contains [] v → ⊥
+none_in : (v : ℕ) → Contains [] v → ⊥
 none_in v on = let lt = on.1 in omega (arith, lt)
+
+pub no_marks : (n : ℕ) (rest : List Entry) (p : ℕ) (ws : List ℕ) → MarksHold n rest p ws [] [] []
+no_marks n rest p ws = record { notes = λ v on. absurd (none_in v on); marks = λ v on. absurd (none_in v on); marks_noted = λ v on. absurd (none_in v on); clears = λ v on. absurd (none_in v on) }
 
 module _ (n : ℕ) (d : WriterState) (e : Entry) (l : ℕ) (ws : List ℕ) (group : slice_get d.plan.groups d.published ≡ Some e) (named : e.label ≡ Some l) (all : (i : ℕ) (m : Move) → slice_get e.moves i ≡ Some m → Contains d.marked m.vertex) (st : WriterHolds n d ws) where
   abbrev es : List Entry
@@ -61,13 +64,13 @@ module _ (n : ℕ) (d : WriterState) (e : Entry) (l : ℕ) (ws : List ℕ) (grou
   facts' = subst (λ (z : List Entry). Facts n d.history z d.phase ws) rest_is st.facts
 
   w : Waits n d.phase d.history e
-  w = facts'.waiting.0
+  w = facts'.groups.waiting.0
 
   label_is : l ≡ w.label
   label_is = let same : Some l ≡ Some w.label = sym named ∙ w.label_is in cc
 
   marks' : AllMarked (e ∷ es) d.phase ws d.marked
-  marks' = subst (λ (z : List Entry). AllMarked z d.phase ws d.marked) rest_is st.marks
+  marks' = subst (λ (z : List Entry). AllMarked z d.phase ws d.marked) rest_is st.marks.marks
 
   marks_are : (v : ℕ) (m : Move) → last_move v e.moves ≡ Some m → unpacked (get_or ws (v + 1) 0) ≡ mark m.new w.label d.phase
   marks_are v m is =
@@ -84,24 +87,27 @@ module _ (n : ℕ) (d : WriterState) (e : Entry) (l : ℕ) (ws : List ℕ) (grou
   old_stays : (v : ℕ) → v < n → get_or now (2 * n + 1 + v) 0 ≡ get_or ws (2 * n + 1 + v) 0
   old_stays v lt = let inside = w.label_in in let same = label_is in get_or-set_other ws place (2 * n + 1 + v) d.phase 0 (λ k. omega (arith, k, inside, same))
 
-  settled_on : (v : ℕ) → IsSettled (e ∷ es) v → IsSettled es v
-  settled_on v free g f is = free g f (group_more e es g f facts'.apart.0 (w.label, w.label_is) is)
+  unmoved_on : (v : ℕ) → IsUnmoved (e ∷ es) v → IsUnmoved es v
+  unmoved_on v free g f is = free g f (group_more e es g f facts'.groups.apart.0 (w.label, w.label_is) is)
 
   noted_on : (vs : List ℕ) → AllNoted n (rest_of d) ws vs → AllNoted n es now vs
   noted_on vs h v on =
       let h' = subst (λ (z : List Entry). AllNoted n z ws vs) rest_is h in
-      let c = h' v on in (c.0, subst (IsNoted es v) (sym (old_stays v c.0)) (λ g f m is moves. c.1 g f m (group_more e es g f facts'.apart.0 (w.label, w.label_is) is) moves))
+      let c = h' v on in (c.0, subst (IsNoted es v) (sym (old_stays v c.0)) (λ g f m is moves. c.1 g f m (group_more e es g f facts'.groups.apart.0 (w.label, w.label_is) is) moves))
 
   marked_on : (vs : List ℕ) → AllMarked (rest_of d) d.phase ws vs → AllMarked es d.phase now vs
   marked_on vs h v on g f m is moves =
       let h' = subst (λ (z : List Entry). AllMarked z d.phase ws vs) rest_is h in
-      let inside = ((waits_found n d.phase d.history g es f facts'.waiting.1 is).moves v m moves).0 in
-      ap unpacked (mark_stays v inside) ∙ h' v on g f m (group_more e es g f facts'.apart.0 (w.label, w.label_is) is) moves
+      let inside = ((waits_found n d.phase d.history g es f facts'.groups.waiting.1 is).moves v m moves).0 in
+      ap unpacked (mark_stays v inside) ∙ h' v on g f m (group_more e es g f facts'.groups.apart.0 (w.label, w.label_is) is) moves
 
   cleared_on : (vs : List ℕ) → AllCleared n (rest_of d) ws vs → AllCleared n es now vs
   cleared_on vs h v on =
       let h' = subst (λ (z : List Entry). AllCleared n z ws vs) rest_is h in
-      let c = h' v on in (c.0, settled_on v c.1, subst (λ (z : ℕ). (unpacked z).phase ≡ 0) (sym (mark_stays v c.0)) c.2)
+      let c = h' v on in (c.0, unmoved_on v c.1, subst (λ (z : ℕ). (unpacked z).phase ≡ 0) (sym (mark_stays v c.0)) c.2)
+
+  marks_on : (ns ms cs : List ℕ) → MarksHold n (rest_of d) d.phase ws ns ms cs → MarksHold n es d.phase now ns ms cs
+  marks_on ns ms cs h = record { notes = noted_on ns h.notes; marks = marked_on ms h.marks; marks_noted = h.marks_noted; clears = cleared_on cs h.clears }
 
   shown_on : AllShown (d.history ++ e ∷ []) d.plan.groups (d.published + 1)
   shown_on k f v m lt is moves = dite (ℕ_discrete k d.published)
@@ -111,9 +117,9 @@ module _ (n : ℕ) (d : WriterState) (e : Entry) (l : ℕ) (ws : List ℕ) (grou
       level_moved d.history e v m (subst (λ (z : Entry). last_move v z.moves ≡ Some m) (sym same) moves))
       (λ o.
       let less : k < d.published = omega (arith, lt, o) in
-      let apart = st.formed.ascend k d.published f e less is group in
+      let apart = st.plan.formed.ascend k d.published f e less is group in
       let none : last_move v e.moves ≡ None = ⊎_elim (λ (t : last_move v e.moves ≡ None). t) (λ (t : (b : Move) × (last_move v e.moves ≡ Some b)). no_none (last_move v e.moves ≡ None) Move m (sym (apart.vertices v t.0 t.1) ∙ moves)) (maybe_cases (last_move v e.moves)) in
-      level_stays d.history e v none ∙ st.shown k f v m less is moves)
+      level_stays d.history e v none ∙ st.plan.shown k f v m less is moves)
 
   pub writer_publishes : d.published + 1 ≤ length d.plan.groups → WriterHolds n After now
   writer_publishes le = record {
@@ -121,19 +127,14 @@ module _ (n : ℕ) (d : WriterState) (e : Entry) (l : ℕ) (ws : List ℕ) (grou
     phases_are = phases_stay d.history e l d.phase d.before named st.phases_are;
     grown = grown_published n d.before d.history d.plan d.published e group st.grown;
     facts = facts_after;
-    formed = st.formed;
-    published_in = le;
-    shown = shown_on;
-    notes = noted_on d.noted st.notes;
-    marks = marked_on d.marked st.marks;
-    marks_noted = st.marks_noted;
-    clears = cleared_on d.cleared st.clears;
+    plan = record { formed = st.plan.formed; published_in = le; shown = shown_on };
+    marks = marks_on d.noted d.marked d.cleared st.marks;
     begin = all_longer d.history e d.joined st.begin;
   }
 
   look_on : (q : Pending) → LookHolds n d.history (rest_of d) d.phase ws q → LookHolds n (d.history ++ e ∷ []) es d.phase now q
   look_on q k = subst (λ (z : ℕ). LookHolds n (d.history ++ e ∷ []) es d.phase (set ws (n + 1 + z) d.phase) q) (sym label_is)
-      (publish_look n d.history e es d.phase w ws q facts'.below facts'.apart.0 (subst (λ (z : List Entry). LookHolds n d.history z d.phase ws q) rest_is k))
+      (publish_look n d.history e es d.phase w ws q facts'.stamps.below facts'.groups.apart.0 (subst (λ (z : List Entry). LookHolds n d.history z d.phase ws q) rest_is k))
 
   below_on : (q : Pending) → BelowHolds n d.history ws q → BelowHolds n (d.history ++ e ∷ []) now q
   below_on q k = subst (λ (z : ℕ). BelowHolds n (d.history ++ e ∷ []) (set ws (n + 1 + z) d.phase) q) (sym label_is) (publish_below n d.history e es d.phase w ws q k)
@@ -149,10 +150,7 @@ module _ (n : ℕ) (d : WriterState) (e : Entry) (l : ℕ) (ws : List ℕ) (grou
     plan_is = k.plan_is;
     early = λ t. let le = k.early t in let other = none m.loan k.listed in omega (arith, le, other);
     late = λ t. let lt = k.late t in omega (arith, lt);
-    notes = noted_on m.noted k.notes;
-    marks = marked_on m.marked k.marks;
-    marks_noted = k.marks_noted;
-    clears = cleared_on m.cleared k.clears;
+    marks = marks_on m.noted m.marked m.cleared k.marks;
   }
   others_publish none writer j (Reads vertices seen made) o k = (k.0, before_more seen d.history e k.1, k.2)
   others_publish none writer j (Looks q) o k = look_on q k
@@ -201,16 +199,11 @@ begins_allowed n slots id d plan may s r homes at bound = (
       (λ st. record {
         vertices_is = st.vertices_is;
         phases_are = phases_begun d.history plan.quiet d.phase d.before may.formed.no_label st.phases_are;
-        grown = grown_begun n d.before d.phase d.history d.plan plan d.published may.all_published st.formed.phase_is (subst (λ (z : ℕ). IsFormed z (d.phase + 1) plan) st.vertices_is may.formed) st.grown;
+        grown = grown_begun n d.before d.phase d.history d.plan plan d.published may.all_published st.plan.formed.phase_is (subst (λ (z : ℕ). IsFormed z (d.phase + 1) plan) st.vertices_is may.formed) st.grown;
         facts = begin n d.history plan.quiet plan.groups d.phase may.formed.no_label may.formed.no_moves s.words (subst (λ (z : List Entry). Facts n d.history z d.phase s.words) none st.facts) may.phase_in
-            (waits_begun n d plan st.vertices_is st.facts.below may) (apart_formed d.vertices (d.phase + 1) plan may.formed);
-        formed = subst (λ (z : ℕ). IsFormed z (d.phase + 1) plan) st.vertices_is may.formed;
-        published_in = omega arith;
-        shown = λ k e v m lt is moves. absurd (omega (arith, lt));
-        notes = λ v on. absurd (none_in v on);
-        marks = λ v on. absurd (none_in v on);
-        marks_noted = λ v on. absurd (none_in v on);
-        clears = λ v on. absurd (none_in v on);
+            (waits_begun n d plan st.vertices_is st.facts.stamps.below may) (apart_formed d.vertices (d.phase + 1) plan may.formed);
+        plan = record { formed = subst (λ (z : ℕ). IsFormed z (d.phase + 1) plan) st.vertices_is may.formed; published_in = omega arith; shown = λ k e v m lt is moves. absurd (omega (arith, lt)) };
+        marks = no_marks n plan.groups (d.phase + 1) (set s.words 0 (d.phase + 1));
         begin = all_longer d.history plan.quiet d.joined st.begin;
       })
       (λ st. others),

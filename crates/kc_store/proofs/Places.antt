@@ -7,9 +7,8 @@ use Rattle.kc_history.specs.Ends.{or_else, last_move}
 use Rattle.kc_history.specs.private.Ends.{is_label}
 use Rattle.kc_groups.specs.declared.plans.PhasePlan.{PhasePlan}
 use Rattle.kc_store.specs.Plans.{Move, AreDistinct, IsFormed}
-use Rattle.kc_store.specs.private.Plans.{group_of, IsMoveAt}
-use Rattle.kc_store.specs.Seats.{HasRange}
-use Rattle.kc_store.specs.private.Rule.{Waits, AllWait, AreApart, ApartFrom, AllApart, IsSettled}
+use Rattle.kc_store.specs.private.Plans.{group_of}
+use Rattle.kc_store.specs.private.Rule.{Waits, AllWait, AreApart, ApartFrom, AllApart, IsUnmoved}
 use Rattle.kc_store.proofs.Points.{group_here, label_found}
 use Rattle.kc_store.proofs.Publishing.{maybe_cases}
 
@@ -32,12 +31,7 @@ move_found v (x ∷ xs) m is = go (last_move v xs) refl (move_found v xs m)
 
 pub move_in_place : (ms : List Move) (i : ℕ) (m : Move) → AreDistinct ms → slice_get ms i ≡ Some m → last_move m.vertex ms ≡ Some m
 move_in_place [] i m d is = cc
-move_in_place (x ∷ xs) zero m d is =
-    let s : x ≡ m = cc in
-    let e : x.vertex ≡ m.vertex = ap (λ (z : Move). z.vertex) s in
-    let t : nat_eq x.vertex m.vertex ≡ true = grind (arith, nat_tests, e) in
-    let n : last_move m.vertex xs ≡ None = subst (λ (z : ℕ). last_move z xs ≡ None) e d.0 in
-    ap (λ o. or_else o (if nat_eq x.vertex m.vertex then Some x else None)) n ∙ (ap (λ b. if b then Some x else None) t ∙ ap Some s)
+move_in_place (x ∷ xs) zero m d is = grind (arith, nat_tests, nat_eq, d.0)
 move_in_place (x ∷ xs) (suc i) m d is = ap (λ o. or_else o (if nat_eq x.vertex m.vertex then Some x else None)) (move_in_place xs i m d.1 is)
 
 pub apart_at : (e : Entry) (es : List Entry) (k : ℕ) (f : Entry) → ApartFrom e es → slice_get es k ≡ Some f → AreApart e f
@@ -48,11 +42,7 @@ apart_at e (x ∷ xs) (suc k) f all is = apart_at e xs k f all.1 is
 pub group_found : (es : List Entry) (k : ℕ) (e : Entry) (g : ℕ) → AllApart es → slice_get es k ≡ Some e → e.label ≡ Some g → group_of g es ≡ Some e
 group_found [] k e g all is l = cc
 group_found (x ∷ xs) zero e g all is l = let s : x ≡ e = cc in group_here x xs g (ap (λ (z : Entry). z.label) s ∙ l) ∙ ap Some s
-group_found (x ∷ xs) (suc k) e g all is l = go (is_label g x.label) refl (group_found xs k e g all.1 is l)
-  where
-    go : (b : Bool) → is_label g x.label ≡ b → group_of g xs ≡ Some e → group_of g (x ∷ xs) ≡ Some e
-    go true t h = absurd ((apart_at x xs k e all.0 is).labels (label_found g x.label t ∙ sym l))
-    go false t h = ap (λ b. if b then Some x else group_of g xs) t ∙ h
+group_found (x ∷ xs) (suc k) e g all is l = grind (arith, nat_tests, group_found xs k e g all.1 is l, apart_at, label_found, all.1, all.0)
 
 pub group_index : (g : ℕ) (es : List Entry) (f : Entry) → group_of g es ≡ Some f → (j : ℕ) × (slice_get es j ≡ Some f)
 group_index g [] f is = cc
@@ -106,7 +96,7 @@ apart_drop zero es all = all
 apart_drop (suc k) [] all = tt
 apart_drop (suc k) (x ∷ xs) all = apart_drop k xs all.1
 
-pub free_done : (n p done k v : ℕ) (plan : PhasePlan) (e : Entry) (m : Move) → IsFormed n p plan → k < done → slice_get plan.groups k ≡ Some e → last_move v e.moves ≡ Some m → IsSettled (drop done plan.groups) v
+pub free_done : (n p done k v : ℕ) (plan : PhasePlan) (e : Entry) (m : Move) → IsFormed n p plan → k < done → slice_get plan.groups k ≡ Some e → last_move v e.moves ≡ Some m → IsUnmoved (drop done plan.groups) v
 free_done n p done k v plan e m formed lt is moves g f group =
     let j = group_index g (drop done plan.groups) f group in
     let there : slice_get plan.groups (done + j.0) ≡ Some f = sym (drop_get done plan.groups j.0) ∙ j.1 in
@@ -120,11 +110,3 @@ group_waits n p done k g plan e formed le is l =
     let i : ℕ = k - done in
     let same : done + i ≡ k = omega (arith, le) in
     group_found (drop done plan.groups) i e g (apart_drop done plan.groups (apart_formed n p plan formed)) (drop_get done plan.groups i ∙ (ap (slice_get plan.groups) same ∙ is)) l
-
-pub move_in : (ms : List Move) (i : ℕ) → i < length ms → (m : Move) × (slice_get ms i ≡ Some m)
-move_in [] i lt = absurd (omega (arith, lt))
-move_in (x ∷ xs) zero lt = (x, refl)
-move_in (x ∷ xs) (suc i) lt = move_in xs i (omega (arith, lt))
-
-pub lent_move : (plan : PhasePlan) (g to i : ℕ) → HasRange plan g to → i < to → (e : Entry) × (m : Move) × IsMoveAt plan g i e m
-lent_move plan g to i r lt = let le = r.to_in in let m = move_in r.group.moves i (omega (arith, lt, le)) in (r.group, m.0, record { group_is = r.group_is; move_is = m.1 })

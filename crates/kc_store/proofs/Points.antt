@@ -1,13 +1,14 @@
 -- Levels, stamps and groups when a history or a list of groups has one entry more.
-use Rattle.std.proofs.Common.{◌≡◌, ◌≢◌, ℕ, ◌<◌, Bool, true, false, List, [], ◌∷◌, ◌++◌, Option, Some, None, if◌then◌else◌, sym, refl, ap, ◌∙◌, subst, arith, append_assoc, append-nil, eq-eqb, ne_eqb}
+use Rattle.std.proofs.Common.{◌≡◌, ◌≢◌, ℕ, ◌<◌, true, false, List, [], ◌∷◌, ◌++◌, Option, Some, None, if◌then◌else◌, sym, refl, ap, ◌∙◌, subst, arith, append_assoc, append-nil, eq-eqb, ne_eqb}
 use Rattle.std.proofs.lemmas.Bool.Decides.{nat_tests}
 use mathlib.Core.List.{IsPrefix}
 use Rattle.kc_history.specs.declared.entries.Entry.{Entry}
 use Rattle.kc_history.specs.Ends.{last_move}
 use Rattle.kc_history.specs.private.Ends.{level_after, level_of, is_label, stamp_of}
+use Rattle.kc_store.specs.declared.roles.Pending.{Pending}
 use Rattle.kc_store.specs.Plans.{Move}
 use Rattle.kc_store.specs.private.Plans.{group_of}
-use Rattle.kc_store.specs.private.Rule.{Waits, AllWait, AreApart, ApartFrom, Reaches}
+use Rattle.kc_store.specs.private.Rule.{Waits, AllWait, AreApart, ApartFrom, Reaches, IsReading}
 
 pub level_snoc : (d : ℕ) (log : List Entry) (e : Entry) (v : ℕ) → level_of d (log ++ e ∷ []) v ≡ level_after (level_of d log v) (last_move v e.moves)
 level_snoc d [] e v = refl
@@ -53,14 +54,13 @@ before_both a b c p q = (p.0 ++ q.0, sym (append_assoc a p.0 q.0) ∙ (ap (λ (z
 pub reaches_more : (from log : List Entry) (e : Entry) (v l : ℕ) → Reaches from log v l → Reaches from (log ++ e ∷ []) v l
 reaches_more from log e v l r = record { point = r.point; after = r.after; within = before_more r.point log e r.within; level_is = r.level_is }
 
+pub reading_more : (n : ℕ) (log : List Entry) (e : Entry) (q : Pending) → IsReading n log q → IsReading n (log ++ e ∷ []) q
+reading_more n log e q h = record { seen_in = h.seen_in; from_in = before_more q.from log e h.from_in; made_in = h.made_in; vertices_is = h.vertices_is; inside = h.inside }
+
 -- what stands in the rest under a label has that label, and is apart from an entry that all are apart from
 pub group_label : (g : ℕ) (es : List Entry) (f : Entry) → group_of g es ≡ Some f → is_label g f.label ≡ true
 group_label g [] f is = cc
-group_label g (e ∷ es) f is = go (is_label g e.label) refl (group_label g es f)
-  where
-    go : (b : Bool) → is_label g e.label ≡ b → (group_of g es ≡ Some f → is_label g f.label ≡ true) → is_label g f.label ≡ true
-    go true t on = let h : Some e ≡ Some f = sym (ap (λ b. if b then Some e else group_of g es) t) ∙ is in let s : e ≡ f = cc in subst (λ (x : Entry). is_label g x.label ≡ true) s t
-    go false t on = on (sym (ap (λ b. if b then Some e else group_of g es) t) ∙ is)
+group_label g (e ∷ es) f is = grind (arith, nat_tests, group_label g es f)
 
 pub label_found : (g : ℕ) (l : Option ℕ) → is_label g l ≡ true → l ≡ Some g
 label_found g None t = cc
@@ -69,19 +69,11 @@ label_found g (Some h) t = let e : h ≡ g = grind (arith, nat_tests, t) in ap S
 -- whatever holds of each group of the rest holds of the one under a label
 pub waits_found : (n p : ℕ) (log : List Entry) (g : ℕ) (es : List Entry) (f : Entry) → AllWait n p log es → group_of g es ≡ Some f → Waits n p log f
 waits_found n p log g [] f all is = cc
-waits_found n p log g (e ∷ es) f all is = go (is_label g e.label) refl (waits_found n p log g es f all.1)
-  where
-    go : (b : Bool) → is_label g e.label ≡ b → (group_of g es ≡ Some f → Waits n p log f) → Waits n p log f
-    go true t on = let h : Some e ≡ Some f = sym (ap (λ b. if b then Some e else group_of g es) t) ∙ is in let s : e ≡ f = cc in subst (Waits n p log) s all.0
-    go false t on = on (sym (ap (λ b. if b then Some e else group_of g es) t) ∙ is)
+waits_found n p log g (e ∷ es) f all is = grind (arith, nat_tests, waits_found n p log g es f all.1, all.1, all.0)
 
 pub apart_found : (e : Entry) (g : ℕ) (es : List Entry) (f : Entry) → ApartFrom e es → group_of g es ≡ Some f → AreApart e f
 apart_found e g [] f all is = cc
-apart_found e g (x ∷ xs) f all is = go (is_label g x.label) refl (apart_found e g xs f all.1)
-  where
-    go : (b : Bool) → is_label g x.label ≡ b → (group_of g xs ≡ Some f → AreApart e f) → AreApart e f
-    go true t on = let h : Some x ≡ Some f = sym (ap (λ b. if b then Some x else group_of g xs) t) ∙ is in let s : x ≡ f = cc in subst (AreApart e) s all.0
-    go false t on = on (sym (ap (λ b. if b then Some x else group_of g xs) t) ∙ is)
+apart_found e g (x ∷ xs) f all is = grind (arith, nat_tests, apart_found e g xs f all.1, all.1, all.0)
 
 -- the groups that stay behind wait as before when one is published from which they are apart
 pub wait_on : (n p : ℕ) (log : List Entry) (e : Entry) (es : List Entry) → Waits n p log e → ApartFrom e es → AllWait n p log es → AllWait n p (log ++ e ∷ []) es

@@ -1,6 +1,6 @@
 -- The steps of writer and markers that store a word of a vertex keep the rule.
 use Rattle.std.proofs.Common.{◌≡◌, ◌≢◌, ℕ, pred, ◌+◌, ◌*◌, ◌^◌, ◌<◌, ◌≤◌, true, false, List, [], ◌∷◌, ◌++◌, Some, Contains, set, get_or, sym, refl, ap, ◌∙◌, subst, ⊎_elim, arith}
-use Rattle.std.proofs.lemmas.List.Elements.{Contains-push_cases, Contains-append_left}
+use Rattle.std.proofs.lemmas.Bool.Decides.{nat_tests}
 use mathlib.Core.Option.{some}
 use lib.ListN.{get_elem?}
 use lib.Seq.{set-get_or}
@@ -18,9 +18,9 @@ use Rattle.kc_store.specs.Plans.{Move}
 use Rattle.kc_store.specs.private.Plans.{IsMoveAt, group_of}
 use Rattle.kc_store.specs.States.{with_noted, with_mark, with_cleared, marker_noted, marker_mark, marker_cleared}
 use Rattle.kc_store.specs.private.Steps.{noted_at, notes, marks, clears, lent_notes, lent_marks, lent_clears}
-use Rattle.kc_store.specs.private.Rule.{AllBegin, AllNoted, IsSettled, IsNoted, IsSoundMark, IsSoundOld, AreMarkedNoted, WriterHolds, MarkerHolds, SeatHolds, IsKept, number_of, AreOwnLoans, rest_of}
+use Rattle.kc_store.specs.private.Rule.{AllBegin, IsUnmoved, IsNoted, IsSoundMark, IsSoundOld, WriterHolds, MarkerHolds, SeatHolds, IsKept, number_of, AreOwnLoans, rest_of}
 use Rattle.kc_store.proofs.Points.{before_more, waits_found}
-use Rattle.kc_store.proofs.Storing.{sound_mark, sound_clear, mark_facts, mark_notes, mark_marks, mark_more, mark_clears, clear_more, mark_look, mark_below, note_facts, note_notes, note_more, note_marks, note_clears, note_look, note_below}
+use Rattle.kc_store.proofs.Storing.{sound_mark, sound_clear, mark_facts, mark_holds, mark_adds, clear_adds, mark_look, mark_below, note_facts, note_holds, note_adds, note_look, note_below}
 use Rattle.kc_store.proofs.Places.{move_in_place, group_waits, free_done}
 
 pub all_longer : (log : List Entry) (e : Entry) (ks : List (List Entry)) → AllBegin log ks → AllBegin (log ++ e ∷ []) ks
@@ -33,11 +33,7 @@ seats_stay K K' vs me w mine others all j v e = ⊎_elim (λ (t : (j ≡ me) × 
     (λ (t : (j ≢ me) × (get_elem? vs j ≡ some v)). others j v t.0 (all j v t.1)) (at_set vs me j w v e)
 
 pub own_set : (vs : List Role) (id : ℕ) (v w : Role) → get_elem? vs id ≡ some v → ((k : ℕ) → number_of w ≡ Some k → number_of v ≡ Some k) → AreOwnLoans vs → AreOwnLoans (set vs id w)
-own_set vs id v w at same all i j k a b ai bj na nb = let x = was i a ai na in let y = was j b bj nb in all i j k x.0 y.0 x.1 y.1 x.2 y.2
-  where
-    was : (i : ℕ) (a : Role) → get_elem? (set vs id w) i ≡ some a → number_of a ≡ Some k → (c : Role) × (get_elem? vs i ≡ some c) × (number_of c ≡ Some k)
-    was i a ai na = ⊎_elim (λ (t : (i ≡ id) × (w ≡ a)). (v, ap (get_elem? vs) t.0 ∙ at, same k (ap number_of t.1 ∙ na)))
-        (λ (t : (i ≢ id) × (get_elem? vs i ≡ some a)). (a, t.1, na)) (at_set vs id i w a ai)
+own_set vs id v w at same all i j k a b ai bj na nb = grind (arith, nat_tests, ⊎_elim, at_set)
 
 -- a step of the writer, which goes from its state d to d'
 pub writer_step : (n : ℕ) (s : State ℕ Role) (r : IsKept n s) (id i x : ℕ) (d d' : WriterState) → get_elem? s.views id ≡ some (Writes d) → (WriterHolds n d s.words → WriterHolds n d' (set s.words i x))
@@ -69,17 +65,17 @@ reader_step n s r id i v w at number mine = subst (λ (ws : List ℕ). IsKept n 
 early_note : (n : ℕ) (d : WriterState) (ws : List ℕ) (g i l : ℕ) (e : Entry) (m : Move) → WriterHolds n d ws → d.published ≤ g → IsMoveAt d.plan g i e m → e.label ≡ Some l → m.old < 2 ^ 16
     → (m.vertex < n) × IsSoundOld d.history m.vertex m.old
 early_note n d ws g i l e m st le at named short =
-    let gr = st.formed.groups g e at.group_is in
-    let w = waits_found n d.phase d.history l (rest_of d) e st.facts.waiting (group_waits n d.phase d.published g l d.plan e st.formed le at.group_is named) in
+    let gr = st.plan.formed.groups g e at.group_is in
+    let w = waits_found n d.phase d.history l (rest_of d) e st.facts.groups.waiting (group_waits n d.phase d.published g l d.plan e st.plan.formed le at.group_is named) in
     let h = w.moves m.vertex m (move_in_place e.moves i m gr.distinct at.move_is) in (h.0, record { level_is = h.1; short = short })
 
 -- and marked once it is noted
 early_mark : (n : ℕ) (d : WriterState) (ws : List ℕ) (g i l : ℕ) (e : Entry) (m : Move) → WriterHolds n d ws → d.published ≤ g → IsMoveAt d.plan g i e m → e.label ≡ Some l → IsNoted (rest_of d) m.vertex (get_or ws (2 * n + 1 + m.vertex) 0)
     → (m.vertex < n) × IsSoundMark n d.history (rest_of d) d.phase m.vertex (packed m.new l d.phase) (get_or ws (2 * n + 1 + m.vertex) 0)
 early_mark n d ws g i l e m st le at named noted =
-    let gr = st.formed.groups g e at.group_is in
+    let gr = st.plan.formed.groups g e at.group_is in
     let found = move_in_place e.moves i m gr.distinct at.move_is in
-    let group : group_of l (rest_of d) ≡ Some e = group_waits n d.phase d.published g l d.plan e st.formed le at.group_is named in
+    let group : group_of l (rest_of d) ≡ Some e = group_waits n d.phase d.published g l d.plan e st.plan.formed le at.group_is named in
     let good = gr.moves i m at.move_is in (
       good.inside,
       sound_mark n d.history (rest_of d) d.phase ws m.vertex l (get_or ws (2 * n + 1 + m.vertex) 0) e m st.facts group found (noted l e m group found),
@@ -87,27 +83,16 @@ early_mark n d ws g i l e m st le at named noted =
 
 -- a move of a group that is published may be cleared
 late_clear : (n : ℕ) (d : WriterState) (ws : List ℕ) (g i : ℕ) (e : Entry) (m : Move) → WriterHolds n d ws → g < d.published → IsMoveAt d.plan g i e m
-    → (m.vertex < n) × IsSettled (rest_of d) m.vertex × IsSoundMark n d.history (rest_of d) d.phase m.vertex (packed m.new 0 0) (get_or ws (2 * n + 1 + m.vertex) 0)
+    → (m.vertex < n) × IsUnmoved (rest_of d) m.vertex × IsSoundMark n d.history (rest_of d) d.phase m.vertex (packed m.new 0 0) (get_or ws (2 * n + 1 + m.vertex) 0)
 late_clear n d ws g i e m st lt at =
-    let gr = st.formed.groups g e at.group_is in
+    let gr = st.plan.formed.groups g e at.group_is in
     let good = gr.moves i m at.move_is in
     let found = move_in_place e.moves i m gr.distinct at.move_is in
-    let free = free_done n d.phase d.published g m.vertex d.plan e m st.formed lt at.group_is found in (
+    let free = free_done n d.phase d.published g m.vertex d.plan e m st.plan.formed lt at.group_is found in (
       good.inside,
       free,
-      sound_clear n d.history (rest_of d) d.phase m.vertex m.new (get_or ws (2 * n + 1 + m.vertex) 0) good.inside (st.shown g e m.vertex m lt at.group_is found) free,
+      sound_clear n d.history (rest_of d) d.phase m.vertex m.new (get_or ws (2 * n + 1 + m.vertex) 0) good.inside (st.plan.shown g e m.vertex m lt at.group_is found) free,
     )
-
--- one noted vertex more
-noted_still : (marked noted : List ℕ) (v : ℕ) → AreMarkedNoted marked noted → AreMarkedNoted marked (noted ++ v ∷ [])
-noted_still marked noted v all x on = Contains-append_left noted (v ∷ []) x (all x on)
-
--- one marked vertex more, which is noted
-marked_still : (marked noted : List ℕ) (v : ℕ) → Contains noted v → AreMarkedNoted marked noted → AreMarkedNoted (marked ++ v ∷ []) noted
-marked_still marked noted v there all x on = ⊎_elim (λ (t : Contains marked x). all x t) (λ (s : v ≡ x). subst (Contains noted) s there) (Contains-push_cases marked v x on)
-
-marked_inside : (n : ℕ) (rest : List Entry) (ws marked noted : List ℕ) → AllNoted n rest ws noted → AreMarkedNoted marked noted → (x : ℕ) → Contains marked x → x < n
-marked_inside n rest ws marked noted notes all x on = (notes x (all x on)).0
 
 -- a packed word of v is stored
 module _ (n : ℕ) (d : WriterState) (writer : ℕ) (ws : List ℕ) (v k : ℕ) (inside : v < n) (st : WriterHolds n d ws) (sound : IsSoundMark n d.history (rest_of d) d.phase v k (get_or ws (2 * n + 1 + v) 0)) where
@@ -120,40 +105,31 @@ module _ (n : ℕ) (d : WriterState) (writer : ℕ) (ws : List ℕ) (v k : ℕ) 
     plan_is = h.plan_is;
     early = h.early;
     late = h.late;
-    notes = mark_notes n d.history (rest_of d) d.phase ws v k inside st.facts.sized sound m.noted h.notes;
-    marks = mark_marks n d.history (rest_of d) d.phase ws v k inside st.facts.sized sound m.marked h.marks;
-    marks_noted = h.marks_noted;
-    clears = mark_clears n d.history (rest_of d) d.phase ws v k inside st.facts.sized sound m.cleared h.clears;
+    marks = mark_holds n d.history (rest_of d) d.phase ws v k inside st.facts.sized sound m.noted m.marked m.cleared h.marks;
   }
 
   marker_marks : (m : MarkerState) → Contains m.noted v → MarkerHolds n d.loans d.lent d.phase d.plan d.published ws m → MarkerHolds n d.loans d.lent d.phase d.plan d.published (set ws (v + 1) k) (marker_mark v m)
-  marker_marks m noted h = let t = mark_marker m h in record {
-    listed = t.listed;
-    number_in = t.number_in;
-    vertices_is = t.vertices_is;
-    phase_is = t.phase_is;
-    plan_is = t.plan_is;
-    early = t.early;
-    late = t.late;
-    notes = t.notes;
-    marks = mark_more n d.history (rest_of d) d.phase ws v k inside st.facts.sized sound m.marked h.marks;
-    marks_noted = marked_still m.marked m.noted v noted h.marks_noted;
-    clears = t.clears;
+  marker_marks m noted h = record {
+    listed = h.listed;
+    number_in = h.number_in;
+    vertices_is = h.vertices_is;
+    phase_is = h.phase_is;
+    plan_is = h.plan_is;
+    early = h.early;
+    late = h.late;
+    marks = mark_adds n d.history (rest_of d) d.phase ws v k inside st.facts.sized sound m.noted m.marked m.cleared noted h.marks;
   }
 
-  marker_clears : IsSettled (rest_of d) v → (m : MarkerState) → MarkerHolds n d.loans d.lent d.phase d.plan d.published ws m → MarkerHolds n d.loans d.lent d.phase d.plan d.published (set ws (v + 1) k) (marker_cleared v m)
-  marker_clears free m h = let t = mark_marker m h in record {
-    listed = t.listed;
-    number_in = t.number_in;
-    vertices_is = t.vertices_is;
-    phase_is = t.phase_is;
-    plan_is = t.plan_is;
-    early = t.early;
-    late = t.late;
-    notes = t.notes;
-    marks = t.marks;
-    marks_noted = t.marks_noted;
-    clears = clear_more n d.history (rest_of d) d.phase ws v k inside st.facts.sized sound m.cleared free h.clears;
+  marker_clears : IsUnmoved (rest_of d) v → (m : MarkerState) → MarkerHolds n d.loans d.lent d.phase d.plan d.published ws m → MarkerHolds n d.loans d.lent d.phase d.plan d.published (set ws (v + 1) k) (marker_cleared v m)
+  marker_clears free m h = record {
+    listed = h.listed;
+    number_in = h.number_in;
+    vertices_is = h.vertices_is;
+    phase_is = h.phase_is;
+    plan_is = h.plan_is;
+    early = h.early;
+    late = h.late;
+    marks = clear_adds n d.history (rest_of d) d.phase ws v k inside st.facts.sized sound m.noted m.marked m.cleared free h.marks;
   }
 
   -- whoever stores it, each other seat knows what it knew
@@ -171,46 +147,31 @@ module _ (n : ℕ) (d : WriterState) (writer : ℕ) (ws : List ℕ) (v k : ℕ) 
     phases_are = st.phases_are;
     grown = st.grown;
     facts = mark_facts n d.history (rest_of d) d.phase ws v k inside st.facts.sized sound st.facts;
-    formed = st.formed;
-    published_in = st.published_in;
-    shown = st.shown;
-    notes = mark_notes n d.history (rest_of d) d.phase ws v k inside st.facts.sized sound d.noted st.notes;
-    marks = mark_marks n d.history (rest_of d) d.phase ws v k inside st.facts.sized sound d.marked st.marks;
-    marks_noted = st.marks_noted;
-    clears = mark_clears n d.history (rest_of d) d.phase ws v k inside st.facts.sized sound d.cleared st.clears;
+    plan = st.plan;
+    marks = mark_holds n d.history (rest_of d) d.phase ws v k inside st.facts.sized sound d.noted d.marked d.cleared st.marks;
     begin = st.begin;
   }
 
   writer_marks : Contains d.noted v → WriterHolds n (with_mark v d) (set ws (v + 1) k)
-  writer_marks noted = let t = mark_writer in record {
-    vertices_is = t.vertices_is;
-    phases_are = t.phases_are;
-    grown = t.grown;
-    facts = t.facts;
-    formed = t.formed;
-    published_in = t.published_in;
-    shown = t.shown;
-    notes = t.notes;
-    marks = mark_more n d.history (rest_of d) d.phase ws v k inside st.facts.sized sound d.marked st.marks;
-    marks_noted = marked_still d.marked d.noted v noted st.marks_noted;
-    clears = t.clears;
-    begin = t.begin;
+  writer_marks noted = record {
+    vertices_is = st.vertices_is;
+    phases_are = st.phases_are;
+    grown = st.grown;
+    facts = mark_facts n d.history (rest_of d) d.phase ws v k inside st.facts.sized sound st.facts;
+    plan = st.plan;
+    marks = mark_adds n d.history (rest_of d) d.phase ws v k inside st.facts.sized sound d.noted d.marked d.cleared noted st.marks;
+    begin = st.begin;
   }
 
-  writer_clears : IsSettled (rest_of d) v → WriterHolds n (with_cleared v d) (set ws (v + 1) k)
-  writer_clears free = let t = mark_writer in record {
-    vertices_is = t.vertices_is;
-    phases_are = t.phases_are;
-    grown = t.grown;
-    facts = t.facts;
-    formed = t.formed;
-    published_in = t.published_in;
-    shown = t.shown;
-    notes = t.notes;
-    marks = t.marks;
-    marks_noted = t.marks_noted;
-    clears = clear_more n d.history (rest_of d) d.phase ws v k inside st.facts.sized sound d.cleared free st.clears;
-    begin = t.begin;
+  writer_clears : IsUnmoved (rest_of d) v → WriterHolds n (with_cleared v d) (set ws (v + 1) k)
+  writer_clears free = record {
+    vertices_is = st.vertices_is;
+    phases_are = st.phases_are;
+    grown = st.grown;
+    facts = mark_facts n d.history (rest_of d) d.phase ws v k inside st.facts.sized sound st.facts;
+    plan = st.plan;
+    marks = clear_adds n d.history (rest_of d) d.phase ws v k inside st.facts.sized sound d.noted d.marked d.cleared free st.marks;
+    begin = st.begin;
   }
 
 -- an old level of v is stored
@@ -224,25 +185,19 @@ module _ (n : ℕ) (d : WriterState) (writer : ℕ) (ws : List ℕ) (v o : ℕ) 
     plan_is = h.plan_is;
     early = h.early;
     late = h.late;
-    notes = note_notes n d.history (rest_of d) d.phase ws v o inside st.facts sound m.noted h.notes;
-    marks = note_marks n d.history (rest_of d) d.phase ws v o inside st.facts sound m.marked (marked_inside n (rest_of d) ws m.marked m.noted h.notes h.marks_noted) h.marks;
-    marks_noted = h.marks_noted;
-    clears = note_clears n d.history (rest_of d) d.phase ws v o inside st.facts sound m.cleared h.clears;
+    marks = note_holds n d.history (rest_of d) d.phase ws v o inside st.facts sound m.noted m.marked m.cleared h.marks;
   }
 
   marker_notes_it : (m : MarkerState) → MarkerHolds n d.loans d.lent d.phase d.plan d.published ws m → MarkerHolds n d.loans d.lent d.phase d.plan d.published (set ws (2 * n + 1 + v) o) (marker_noted v m)
-  marker_notes_it m h = let t = note_marker m h in record {
-    listed = t.listed;
-    number_in = t.number_in;
-    vertices_is = t.vertices_is;
-    phase_is = t.phase_is;
-    plan_is = t.plan_is;
-    early = t.early;
-    late = t.late;
-    notes = note_more n d.history (rest_of d) d.phase ws v o inside st.facts sound m.noted h.notes;
-    marks = t.marks;
-    marks_noted = noted_still m.marked m.noted v h.marks_noted;
-    clears = t.clears;
+  marker_notes_it m h = record {
+    listed = h.listed;
+    number_in = h.number_in;
+    vertices_is = h.vertices_is;
+    phase_is = h.phase_is;
+    plan_is = h.plan_is;
+    early = h.early;
+    late = h.late;
+    marks = note_adds n d.history (rest_of d) d.phase ws v o inside st.facts sound m.noted m.marked m.cleared h.marks;
   }
 
   note_seat : (j : ℕ) (x : Role) → SeatHolds n d writer ws j x → SeatHolds n d writer (set ws (2 * n + 1 + v) o) j x
@@ -259,30 +214,20 @@ module _ (n : ℕ) (d : WriterState) (writer : ℕ) (ws : List ℕ) (v o : ℕ) 
     phases_are = st.phases_are;
     grown = st.grown;
     facts = note_facts n d.history (rest_of d) d.phase ws v o inside st.facts sound;
-    formed = st.formed;
-    published_in = st.published_in;
-    shown = st.shown;
-    notes = note_notes n d.history (rest_of d) d.phase ws v o inside st.facts sound d.noted st.notes;
-    marks = note_marks n d.history (rest_of d) d.phase ws v o inside st.facts sound d.marked (marked_inside n (rest_of d) ws d.marked d.noted st.notes st.marks_noted) st.marks;
-    marks_noted = st.marks_noted;
-    clears = note_clears n d.history (rest_of d) d.phase ws v o inside st.facts sound d.cleared st.clears;
+    plan = st.plan;
+    marks = note_holds n d.history (rest_of d) d.phase ws v o inside st.facts sound d.noted d.marked d.cleared st.marks;
     begin = st.begin;
   }
 
   writer_notes_it : WriterHolds n (with_noted v d) (set ws (2 * n + 1 + v) o)
-  writer_notes_it = let t = note_writer in record {
-    vertices_is = t.vertices_is;
-    phases_are = t.phases_are;
-    grown = t.grown;
-    facts = t.facts;
-    formed = t.formed;
-    published_in = t.published_in;
-    shown = t.shown;
-    notes = note_more n d.history (rest_of d) d.phase ws v o inside st.facts sound d.noted st.notes;
-    marks = t.marks;
-    marks_noted = noted_still d.marked d.noted v st.marks_noted;
-    clears = t.clears;
-    begin = t.begin;
+  writer_notes_it = record {
+    vertices_is = st.vertices_is;
+    phases_are = st.phases_are;
+    grown = st.grown;
+    facts = note_facts n d.history (rest_of d) d.phase ws v o inside st.facts sound;
+    plan = st.plan;
+    marks = note_adds n d.history (rest_of d) d.phase ws v o inside st.facts sound d.noted d.marked d.cleared st.marks;
+    begin = st.begin;
   }
 
 -- what the other seats know doesn't hang on what the writer noted, marked or cleared
@@ -339,8 +284,8 @@ marks_allowed n slots id g i l d e m le at' named noted s r homes at bound =
       keeps,
       tt,
       writer_step n s r id (m.vertex + 1) x d (with_mark m.vertex d) at
-          (λ st. let z = early_mark n d s.words g i l e m st le at' named (st.notes m.vertex noted).1 in writer_marks n d r.writer s.words m.vertex x z.0 st z.1 noted)
-          (λ st j v o k. let z = early_mark n d s.words g i l e m st le at' named (st.notes m.vertex noted).1 in others_marked n d m.vertex r.writer (set s.words (m.vertex + 1) x) j v o (mark_seat n d r.writer s.words m.vertex x z.0 st z.1 j v k)),
+          (λ st. let z = early_mark n d s.words g i l e m st le at' named (st.marks.notes m.vertex noted).1 in writer_marks n d r.writer s.words m.vertex x z.0 st z.1 noted)
+          (λ st j v o k. let z = early_mark n d s.words g i l e m st le at' named (st.marks.notes m.vertex noted).1 in others_marked n d m.vertex r.writer (set s.words (m.vertex + 1) x) j v o (mark_seat n d r.writer s.words m.vertex x z.0 st z.1 j v k)),
       (λ j. (Writes (with_mark (sym (pred_is m.vertex) j) d), [])),
     )
 
@@ -387,7 +332,7 @@ pub lent_marks_allowed : (n slots id i l : ℕ) (a : MarkerState) (e : Entry) (m
 lent_marks_allowed n slots id i l a e m early at' named noted s r homes at bound =
     let h = r.seats id (Marks a) at in
     let o : ℕ = get_or s.words (2 * n + 1 + m.vertex) 0 in
-    let z = early_mark n r.state s.words a.loan.group i l e m r.writes (h.early early) (subst (λ (p : PhasePlan). IsMoveAt p a.loan.group i e m) h.plan_is at') named (h.notes m.vertex noted).1 in
+    let z = early_mark n r.state s.words a.loan.group i l e m r.writes (h.early early) (subst (λ (p : PhasePlan). IsMoveAt p a.loan.group i e m) h.plan_is at') named (h.marks.notes m.vertex noted).1 in
     let x : ℕ = packed m.new l a.phase in
     let sound : IsSoundMark n r.state.history (rest_of r.state) r.state.phase m.vertex x o = subst (λ (p : ℕ). IsSoundMark n r.state.history (rest_of r.state) r.state.phase m.vertex (packed m.new l p) o) (sym h.phase_is) z.1 in (
       Marks (marker_mark m.vertex a),

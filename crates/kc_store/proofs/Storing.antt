@@ -1,6 +1,7 @@
 -- Two laws of stores to the words of a vertex, whoever makes them: one of packed words, one of old levels.
 use Rattle.std.proofs.Common.{◌≡◌, ◌≢◌, ℕ, ◌+◌, ◌*◌, ◌^◌, ◌<◌, Bool, true, false, List, [], ◌∷◌, ◌++◌, length, Some, None, if◌then◌else◌, set, get_or, Contains, sym, refl, ap, ◌∙◌, subst, ⊎_elim, arith, length-set, get_or-set_same, get_or-set_other}
-use Rattle.std.proofs.lemmas.List.Elements.{Contains-push_cases}
+use Rattle.std.proofs.lemmas.List.Elements.{Contains-push_cases, Contains-append_left}
+use Rattle.std.proofs.lemmas.Bool.Decides.{nat_tests}
 use mathlib.Core.Logic.{dite}
 use native.Mathlib.Decide.{ℕ_discrete}
 use Rattle.kc_words.specs.declared.marks.Mark.{Mark}
@@ -11,7 +12,7 @@ use Rattle.kc_history.specs.private.Ends.{level_of, is_label, stamp_of}
 use Rattle.kc_store.specs.declared.roles.Pending.{Pending}
 use Rattle.kc_store.specs.Plans.{Move}
 use Rattle.kc_store.specs.private.Plans.{group_of}
-use Rattle.kc_store.specs.private.Rule.{AllApart, IsUnpublished, Fits, Facts, IsSoundMark, IsSoundOld, IsMarked, IsNoted, IsSettled, AllMarked, AllNoted, AllCleared, Reaches, LookHolds, BelowHolds}
+use Rattle.kc_store.specs.private.Rule.{AllApart, IsUnpublished, Fits, Facts, IsSoundMark, IsSoundOld, IsMarked, IsNoted, IsUnmoved, AllMarked, AllNoted, AllCleared, AreMarkedNoted, MarksHold, Reaches, LookHolds, BelowHolds}
 use Rattle.kc_store.proofs.Limits.{vertex_fits, phase_fits}
 use Rattle.kc_store.proofs.Points.{group_label, label_found, waits_found, apart_found, before_itself}
 use Rattle.kc_store.proofs.Publishing.{mark, unpacks}
@@ -39,7 +40,7 @@ same_group v g h (x ∷ xs) e f m k apart ge hf me kf = go (is_label g x.label) 
 -- the mark of a move of a group that is not published yet may be stored where its old level is
 pub sound_mark : (n : ℕ) (log rest : List Entry) (p : ℕ) (ws : List ℕ) (v g o : ℕ) (e : Entry) (m : Move) → Facts n log rest p ws → group_of g rest ≡ Some e → last_move v e.moves ≡ Some m → o ≡ m.old → IsSoundMark n log rest p v (packed m.new g p) o
 sound_mark n log rest p ws v g o e m f group moves old =
-    let w = waits_found n p log g rest e f.waiting group in
+    let w = waits_found n p log g rest e f.groups.waiting group in
     let named : e.label ≡ Some g = label_found g e.label (group_label g rest e group) in
     let same : Some g ≡ Some w.label = sym named ∙ w.label_is in
     let is : g ≡ w.label = cc in
@@ -53,7 +54,7 @@ sound_mark n log rest p ws v g o e m f group moves old =
         unpublished = λ b. record { phase_is = refl; group = e; group_is = group; move = m; move_is = moves; new_is = refl; level_is = h.1; old_is = old };
       };
       marked = λ j y b group' there.
-          let one : e ≡ y = same_group v g j rest e y m b f.apart group group' moves there in
+          let one : e ≡ y = same_group v g j rest e y m b f.groups.apart group group' moves there in
           let named' : y.label ≡ Some j = label_found j y.label (group_label j rest y group') in
           let labels : Some g ≡ Some j = sym named ∙ (ap (λ (z : Entry). z.label) one ∙ named') in
           let label_same : g ≡ j = cc in
@@ -64,17 +65,16 @@ sound_mark n log rest p ws v g o e m f group moves old =
     }
 
 -- a mark of phase 0 with the level of a vertex may be stored where no group that waits moves it
-pub sound_clear : (n : ℕ) (log rest : List Entry) (p v l o : ℕ) → v < n → level_of 0 log v ≡ l → IsSettled rest v → IsSoundMark n log rest p v (packed l 0 0) o
-sound_clear n log rest p v l o inside is free =
-    let u : unpacked (packed l 0 0) ≡ mark l 0 0 = unpacks l 0 0 (omega arith) (omega arith) in record {
-      fits = subst (λ (z : Mark). Fits n log rest p v z o) (sym u) record {
-        label_in = omega (arith, inside);
-        shown = λ le. is;
-        unpublished = λ lt. absurd (omega (arith, lt));
-      };
-      marked = λ j y b group there. let n : None ≡ Some b = sym (free j y group) ∙ there in cc;
-      cleared = λ f. ap (λ (z : Mark). z.phase) u;
-    }
+pub sound_clear : (n : ℕ) (log rest : List Entry) (p v l o : ℕ) → v < n → level_of 0 log v ≡ l → IsUnmoved rest v → IsSoundMark n log rest p v (packed l 0 0) o
+sound_clear n log rest p v l o inside is free = grind (arith, nat_tests, mark, unpacks)
+
+-- one noted vertex more
+noted_still : (marked noted : List ℕ) (v : ℕ) → AreMarkedNoted marked noted → AreMarkedNoted marked (noted ++ v ∷ [])
+noted_still marked noted v all x on = Contains-append_left noted (v ∷ []) x (all x on)
+
+-- one marked vertex more, which is noted
+marked_still : (marked noted : List ℕ) (v : ℕ) → Contains noted v → AreMarkedNoted marked noted → AreMarkedNoted (marked ++ v ∷ []) noted
+marked_still marked noted v there all x on = ⊎_elim (λ (t : Contains marked x). all x t) (λ (s : v ≡ x). subst (Contains noted) s there) (Contains-push_cases marked v x on)
 
 module _ (n : ℕ) (log rest : List Entry) (p : ℕ) (ws : List ℕ) (v k : ℕ) (inside : v < n) (sized : length ws ≡ 3 * n + 1) (sound : IsSoundMark n log rest p v k (get_or ws (2 * n + 1 + v) 0)) where
   abbrev marked : List ℕ
@@ -95,55 +95,60 @@ module _ (n : ℕ) (log rest : List Entry) (p : ℕ) (ws : List ℕ) (v k : ℕ)
     small = f.small;
     phase_is = get_or-set_other ws (v + 1) 0 k 0 (λ x. omega arith) ∙ f.phase_is;
     phase_in = f.phase_in;
-    stamps = λ j lt. get_or-set_other ws (v + 1) (n + 1 + j) k 0 (λ x. omega arith) ∙ f.stamps j lt;
-    below = f.below;
-    waiting = f.waiting;
-    apart = f.apart;
+    stamps = record { words = λ j lt. get_or-set_other ws (v + 1) (n + 1 + j) k 0 (λ x. omega arith) ∙ f.stamps.words j lt; below = f.stamps.below };
+    groups = f.groups;
     vertices = λ x lt. subst (λ (z : ℕ). Fits n log rest p x (unpacked (get_or marked (x + 1) 0)) z) (sym (old_stays x)) (dite (ℕ_discrete x v)
         (λ s. subst (λ (y : ℕ). Fits n log rest p y (unpacked (get_or marked (y + 1) 0)) (get_or ws (2 * n + 1 + y) 0)) (sym s) (subst (λ (z : ℕ). Fits n log rest p v (unpacked z) (get_or ws (2 * n + 1 + v) 0)) (sym here) sound.fits))
         (λ o. subst (λ (z : ℕ). Fits n log rest p x (unpacked z) (get_or ws (2 * n + 1 + x) 0)) (sym (else_where x o)) (f.vertices x lt)));
     olds = λ x lt. subst (λ (z : ℕ). z < 2 ^ 16) (sym (old_stays x)) (f.olds x lt);
   }
 
-  pub mark_notes : (vs : List ℕ) → AllNoted n rest ws vs → AllNoted n rest marked vs
+  mark_notes : (vs : List ℕ) → AllNoted n rest ws vs → AllNoted n rest marked vs
   mark_notes vs all x on = let a = all x on in (a.0, subst (IsNoted rest x) (sym (old_stays x)) a.1)
 
   marked_here : IsMarked rest p v (get_or marked (v + 1) 0)
   marked_here = subst (IsMarked rest p v) (sym here) sound.marked
 
-  pub mark_marks : (vs : List ℕ) → AllMarked rest p ws vs → AllMarked rest p marked vs
+  mark_marks : (vs : List ℕ) → AllMarked rest p ws vs → AllMarked rest p marked vs
   mark_marks vs all x on = dite (ℕ_discrete x v)
       (λ s. subst (λ (y : ℕ). IsMarked rest p y (get_or marked (y + 1) 0)) (sym s) marked_here)
       (λ o. subst (IsMarked rest p x) (sym (else_where x o)) (all x on))
 
-  pub mark_more : (vs : List ℕ) → AllMarked rest p ws vs → AllMarked rest p marked (vs ++ v ∷ [])
+  mark_more : (vs : List ℕ) → AllMarked rest p ws vs → AllMarked rest p marked (vs ++ v ∷ [])
   mark_more vs all x on = ⊎_elim (λ (t : Contains vs x). mark_marks vs all x t) (λ (s : v ≡ x). subst (λ (y : ℕ). IsMarked rest p y (get_or marked (y + 1) 0)) s marked_here) (Contains-push_cases vs v x on)
 
   abbrev IsClear : ℕ → Type 0
   IsClear z = (unpacked z).phase ≡ 0
 
-  clear_here : IsSettled rest v → IsClear (get_or marked (v + 1) 0)
+  clear_here : IsUnmoved rest v → IsClear (get_or marked (v + 1) 0)
   clear_here free = subst IsClear (sym here) (sound.cleared free)
 
-  pub mark_clears : (vs : List ℕ) → AllCleared n rest ws vs → AllCleared n rest marked vs
+  mark_clears : (vs : List ℕ) → AllCleared n rest ws vs → AllCleared n rest marked vs
   mark_clears vs all x on = let c = all x on in (
     c.0,
     c.1,
     dite (ℕ_discrete x v)
-        (λ s. subst (λ (y : ℕ). IsClear (get_or marked (y + 1) 0)) (sym s) (clear_here (subst (IsSettled rest) s c.1)))
+        (λ s. subst (λ (y : ℕ). IsClear (get_or marked (y + 1) 0)) (sym s) (clear_here (subst (IsUnmoved rest) s c.1)))
         (λ o. subst IsClear (sym (else_where x o)) c.2),
   )
 
-  pub clear_more : (vs : List ℕ) → IsSettled rest v → AllCleared n rest ws vs → AllCleared n rest marked (vs ++ v ∷ [])
-  clear_more vs free all x on = ⊎_elim (λ (t : Contains vs x). mark_clears vs all x t) (λ (s : v ≡ x). subst (λ (y : ℕ). (y < n) × IsSettled rest y × IsClear (get_or marked (y + 1) 0)) s (inside, free, clear_here free)) (Contains-push_cases vs v x on)
+  clear_more : (vs : List ℕ) → IsUnmoved rest v → AllCleared n rest ws vs → AllCleared n rest marked (vs ++ v ∷ [])
+  clear_more vs free all x on = ⊎_elim (λ (t : Contains vs x). mark_clears vs all x t) (λ (s : v ≡ x). subst (λ (y : ℕ). (y < n) × IsUnmoved rest y × IsClear (get_or marked (y + 1) 0)) s (inside, free, clear_here free)) (Contains-push_cases vs v x on)
+
+  pub mark_holds : (ns ms cs : List ℕ) → MarksHold n rest p ws ns ms cs → MarksHold n rest p marked ns ms cs
+  mark_holds ns ms cs h = record { notes = mark_notes ns h.notes; marks = mark_marks ms h.marks; marks_noted = h.marks_noted; clears = mark_clears cs h.clears }
+
+  -- the move of v is marked
+  pub mark_adds : (ns ms cs : List ℕ) → Contains ns v → MarksHold n rest p ws ns ms cs → MarksHold n rest p marked ns (ms ++ v ∷ []) cs
+  mark_adds ns ms cs noted h = record { notes = mark_notes ns h.notes; marks = mark_more ms h.marks; marks_noted = marked_still ms ns v noted h.marks_noted; clears = mark_clears cs h.clears }
+
+  -- the move of v is cleared
+  pub clear_adds : (ns ms cs : List ℕ) → IsUnmoved rest v → MarksHold n rest p ws ns ms cs → MarksHold n rest p marked ns ms (cs ++ v ∷ [])
+  clear_adds ns ms cs free h = record { notes = mark_notes ns h.notes; marks = mark_marks ms h.marks; marks_noted = h.marks_noted; clears = clear_more cs free h.clears }
 
   pub mark_look : (q : Pending) → LookHolds n log rest p ws q → LookHolds n log rest p marked q
   mark_look q h = record {
-    seen_in = h.seen_in;
-    from_in = h.from_in;
-    made_in = h.made_in;
-    vertices_is = h.vertices_is;
-    inside = h.inside;
+    reading = h.reading;
     label_in = h.label_in;
     shown = h.shown;
     unpublished = λ lt. subst (IsUnpublished log rest p q.vertex (unpacked q.word)) (sym (old_stays q.vertex)) (h.unpublished lt);
@@ -151,11 +156,7 @@ module _ (n : ℕ) (log rest : List Entry) (p : ℕ) (ws : List ℕ) (v k : ℕ)
 
   pub mark_below : (q : Pending) → BelowHolds n log ws q → BelowHolds n log marked q
   mark_below q h = record {
-    seen_in = h.seen_in;
-    from_in = h.from_in;
-    made_in = h.made_in;
-    vertices_is = h.vertices_is;
-    inside = h.inside;
+    reading = h.reading;
     old = subst (Reaches q.from log q.vertex) (sym (old_stays q.vertex)) h.old;
   }
 
@@ -193,24 +194,18 @@ module _ (n : ℕ) (log rest : List Entry) (p : ℕ) (ws : List ℕ) (v o : ℕ)
     small = f.small;
     phase_is = get_or-set_other ws (2 * n + 1 + v) 0 o 0 (λ x. omega arith) ∙ f.phase_is;
     phase_in = f.phase_in;
-    stamps = λ j lt. get_or-set_other ws (2 * n + 1 + v) (n + 1 + j) o 0 (λ x. omega (arith, x, lt)) ∙ f.stamps j lt;
-    below = f.below;
-    waiting = f.waiting;
-    apart = f.apart;
-    vertices = λ x lt. let h = f.vertices x lt in subst (λ (z : ℕ). Fits n log rest p x (unpacked z) (get_or noted (2 * n + 1 + x) 0)) (sym (mark_stays x lt)) record {
-      label_in = h.label_in;
-      shown = h.shown;
-      unpublished = λ late. unpublished_at x (unpacked (get_or ws (x + 1) 0)) (h.unpublished late);
-    };
+    stamps = record { words = λ j lt. get_or-set_other ws (2 * n + 1 + v) (n + 1 + j) o 0 (λ x. omega (arith, x, lt)) ∙ f.stamps.words j lt; below = f.stamps.below };
+    groups = f.groups;
+    vertices = λ x lt. grind (arith, nat_tests, mark_stays, unpublished_at);
     olds = λ x lt. dite (ℕ_discrete x v)
         (λ s. subst (λ (y : ℕ). get_or noted (2 * n + 1 + y) 0 < 2 ^ 16) (sym s) (subst (λ (z : ℕ). z < 2 ^ 16) (sym old_here) sound.short))
         (λ other. subst (λ (z : ℕ). z < 2 ^ 16) (sym (old_else x other)) (f.olds x lt));
   }
 
   noted_here : IsNoted rest v (get_or noted (2 * n + 1 + v) 0)
-  noted_here g e m group moves = old_here ∙ (sym sound.level_is ∙ ((waits_found n p log g rest e f.waiting group).moves v m moves).1)
+  noted_here g e m group moves = old_here ∙ (sym sound.level_is ∙ ((waits_found n p log g rest e f.groups.waiting group).moves v m moves).1)
 
-  pub note_notes : (vs : List ℕ) → AllNoted n rest ws vs → AllNoted n rest noted vs
+  note_notes : (vs : List ℕ) → AllNoted n rest ws vs → AllNoted n rest noted vs
   note_notes vs all x on = let a = all x on in (
     a.0,
     dite (ℕ_discrete x v)
@@ -218,22 +213,28 @@ module _ (n : ℕ) (log rest : List Entry) (p : ℕ) (ws : List ℕ) (v o : ℕ)
         (λ other. subst (IsNoted rest x) (sym (old_else x other)) a.1),
   )
 
-  pub note_more : (vs : List ℕ) → AllNoted n rest ws vs → AllNoted n rest noted (vs ++ v ∷ [])
+  note_more : (vs : List ℕ) → AllNoted n rest ws vs → AllNoted n rest noted (vs ++ v ∷ [])
   note_more vs all x on = ⊎_elim (λ (t : Contains vs x). note_notes vs all x t) (λ (s : v ≡ x). subst (λ (y : ℕ). (y < n) × IsNoted rest y (get_or noted (2 * n + 1 + y) 0)) s (inside, noted_here)) (Contains-push_cases vs v x on)
 
-  pub note_marks : (vs : List ℕ) → ((x : ℕ) → Contains vs x → x < n) → AllMarked rest p ws vs → AllMarked rest p noted vs
+  note_marks : (vs : List ℕ) → ((x : ℕ) → Contains vs x → x < n) → AllMarked rest p ws vs → AllMarked rest p noted vs
   note_marks vs within all x on = subst (IsMarked rest p x) (sym (mark_stays x (within x on))) (all x on)
 
-  pub note_clears : (vs : List ℕ) → AllCleared n rest ws vs → AllCleared n rest noted vs
+  note_clears : (vs : List ℕ) → AllCleared n rest ws vs → AllCleared n rest noted vs
   note_clears vs all x on = let c = all x on in (c.0, c.1, subst (λ (z : ℕ). (unpacked z).phase ≡ 0) (sym (mark_stays x c.0)) c.2)
+
+  marks_stay : (ns ms cs : List ℕ) → MarksHold n rest p ws ns ms cs → AllMarked rest p noted ms
+  marks_stay ns ms cs h = note_marks ms (λ x on. (h.notes x (h.marks_noted x on)).0) h.marks
+
+  pub note_holds : (ns ms cs : List ℕ) → MarksHold n rest p ws ns ms cs → MarksHold n rest p noted ns ms cs
+  note_holds ns ms cs h = record { notes = note_notes ns h.notes; marks = marks_stay ns ms cs h; marks_noted = h.marks_noted; clears = note_clears cs h.clears }
+
+  -- the move of v is noted
+  pub note_adds : (ns ms cs : List ℕ) → MarksHold n rest p ws ns ms cs → MarksHold n rest p noted (ns ++ v ∷ []) ms cs
+  note_adds ns ms cs h = record { notes = note_more ns h.notes; marks = marks_stay ns ms cs h; marks_noted = noted_still ms ns v h.marks_noted; clears = note_clears cs h.clears }
 
   pub note_look : (q : Pending) → LookHolds n log rest p ws q → LookHolds n log rest p noted q
   note_look q h = record {
-    seen_in = h.seen_in;
-    from_in = h.from_in;
-    made_in = h.made_in;
-    vertices_is = h.vertices_is;
-    inside = h.inside;
+    reading = h.reading;
     label_in = h.label_in;
     shown = h.shown;
     unpublished = λ lt. unpublished_at q.vertex (unpacked q.word) (h.unpublished lt);
@@ -242,12 +243,8 @@ module _ (n : ℕ) (log rest : List Entry) (p : ℕ) (ws : List ℕ) (v o : ℕ)
   -- a pass may find the level of now, which is one since its first load
   pub note_below : (q : Pending) → BelowHolds n log ws q → BelowHolds n log noted q
   note_below q h = record {
-    seen_in = h.seen_in;
-    from_in = h.from_in;
-    made_in = h.made_in;
-    vertices_is = h.vertices_is;
-    inside = h.inside;
+    reading = h.reading;
     old = dite (ℕ_discrete q.vertex v)
-        (λ s. record { point = log; after = h.from_in; within = before_itself log; level_is = ap (level_of 0 log) s ∙ (sound.level_is ∙ (sym old_here ∙ ap (λ (z : ℕ). get_or noted (2 * n + 1 + z) 0) (sym s))) })
+        (λ s. record { point = log; after = h.reading.from_in; within = before_itself log; level_is = ap (level_of 0 log) s ∙ (sound.level_is ∙ (sym old_here ∙ ap (λ (z : ℕ). get_or noted (2 * n + 1 + z) 0) (sym s))) })
         (λ other. subst (Reaches q.from log q.vertex) (sym (old_else q.vertex other)) h.old);
   }

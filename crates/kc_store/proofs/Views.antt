@@ -1,6 +1,7 @@
 -- What callers see of the writer and of a marker before and after their steps.
 use Rattle.std.proofs.Common.{◌≡◌, ℕ, ◌+◌, ◌*◌, ◌≤◌, ◌<◌, false, Some, Contains, length, sym, ap, ◌∙◌, subst, arith}
 use Rattle.std.proofs.lemmas.List.Elements.{Contains-push}
+use Rattle.std.proofs.lemmas.Bool.Decides.{nat_tests}
 use Rattle.atomic_table.specs.Table.{step, Allows}
 use Rattle.atomic_table.specs.declared.shared.Seat.{Seat}
 use Rattle.kc_words.specs.Packed.{packed}
@@ -12,9 +13,9 @@ use Rattle.kc_store.specs.declared.roles.Role.{Role}
 use Rattle.kc_store.specs.Plans.{Move, IsFormed, group_at}
 use Rattle.kc_store.specs.private.Plans.{IsMoveAt}
 use Rattle.kc_store.specs.private.Rule.{IsKept}
-use Rattle.kc_store.specs.States.{with_noted, with_mark, with_marked, with_cleared, marker_noted, marker_mark, marker_marked, marker_cleared}
+use Rattle.kc_store.specs.States.{with_mark, with_marked, with_cleared, marker_mark, marker_marked, marker_cleared}
 use Rattle.kc_store.specs.private.Seats.{Sat}
-use Rattle.kc_store.specs.Seats.{WriterShape, MarkerShape, writer_of, marker_of, writer_shape, marker_shape, IsWriter, IsMarker, HasRange}
+use Rattle.kc_store.specs.Seats.{WriterShape, MarkerShape, writer_of, marker_of, writer_shape, marker_shape, IsWriter, IsMarker}
 use Rattle.kc_store.specs.private.Steps.{at_writer, at_marker, marked_at, noted_at, writer_notes, marker_notes, marks, lent_marks}
 use Rattle.kc_store.proofs.Forms.{IsPlaced, placed, placed_lent}
 use Rattle.kc_store.proofs.Seats.{pred_is, noted_is}
@@ -26,12 +27,7 @@ writers_move s shape plan g i is view same few = placed (writer_of s.me.0).verti
 
 -- a move that a marker is given
 pub markers_move : (s : Seat ℕ Role) (shape : MarkerShape) (plan : PhasePlan) (i : ℕ) → IsMarker s → marker_shape s ≡ shape → plan ≡ shape.state.plan → i < shape.state.loan.to → IsPlaced (marker_of s.me.0).vertices plan (marker_of s.me.0).loan.group i
-markers_move s shape plan i is view same lt =
-    let plan_is : plan ≡ (marker_of s.me.0).plan = same ∙ ap (λ z. z.state.plan) (sym view) in
-    placed_lent (marker_of s.me.0).vertices (marker_of s.me.0).phase plan (marker_of s.me.0).loan.group i (marker_of s.me.0).loan.to
-    (subst (IsFormed (marker_of s.me.0).vertices (marker_of s.me.0).phase) (sym plan_is) is.formed)
-    (subst (λ (p : PhasePlan). HasRange p (marker_of s.me.0).loan.group (marker_of s.me.0).loan.to) (sym plan_is) is.range)
-    (subst (λ (k : ℕ). i < k) (ap (λ z. z.state.loan.to) (sym view)) lt)
+markers_move s shape plan i is view same lt = grind (arith, nat_tests, placed_lent, is.formed, is.range)
 
 -- tables of as many words are for as many vertices
 pub same_vertices : (n k words : ℕ) → words ≡ 3 * k + 1 → words ≡ 3 * n + 1 → k ≡ n
@@ -77,13 +73,7 @@ marks_after key n slots id x v g i l place was me e m same is vertices went plac
 pub writer_marked : (old mid new : Seat ℕ Role) (shape : WriterShape) (n place v w : ℕ) → IsWriter old → writer_shape old ≡ shape → (writer_of old.me.0).vertices ≡ n → place ≡ 2 * n + 1 + v
     → mid.table_id ≡ old.table_id → mid.me ≡ (at_writer (writer_notes place) old.me.0, old.me.1) → new.table_id ≡ mid.table_id → new.me ≡ (at_writer (with_mark (marked_at (v + 1))) mid.me.0, mid.me.1) → v ≡ w
     → writer_shape new ≡ record shape { state = with_marked w shape.state }
-writer_marked old mid new shape n place v w is view vertices place_is table me table' me' same =
-    let a = after_writer (writer_notes place) old.me mid.me is.me_is me in
-    let b = after_writer (with_mark (marked_at (v + 1))) mid.me new.me a.0 me' in
-    let noted : noted_at (writer_of old.me.0).vertices place ≡ v = ap (noted_at (writer_of old.me.0).vertices) place_is ∙ noted_is n (writer_of old.me.0).vertices v vertices in
-    let state : writer_of new.me.0 ≡ with_mark (marked_at (v + 1)) (writer_notes place (writer_of old.me.0)) = b.1 ∙ ap (with_mark (marked_at (v + 1))) a.1 in
-    let both : with_mark (marked_at (v + 1)) (writer_notes place (writer_of old.me.0)) ≡ with_marked w (writer_of old.me.0) = (λ i. with_mark ((pred_is v ∙ same) i) (with_noted ((noted ∙ same) i) (writer_of old.me.0))) in
-    λ i. record { table = (table' ∙ (table ∙ ap (λ z. z.table) view)) i; state = (state ∙ (both ∙ ap (λ z. with_marked w z.state) view)) i }
+writer_marked old mid new shape n place v w is view vertices place_is table me table' me' same = grind (arith, nat_tests, after_writer, noted_is, pred_is, is.me_is)
 
 pub lent_marks_after : (key n slots id x v i l place : ℕ) (was me : Sat) (e : Entry) (m : Move) → key ≡ n → Marking was → (marker_of was.0).vertices ≡ n → me ≡ (at_marker (marker_notes place) was.0, was.1) → place ≡ 2 * n + 1 + v
     → (marker_of was.0).loan.published ≡ false → IsMoveAt (marker_of was.0).plan (marker_of was.0).loan.group i e m → e.label ≡ Some l → v ≡ m.vertex → x ≡ packed m.new l (marker_of was.0).phase
@@ -103,10 +93,4 @@ lent_marks_after key n slots id x v i l place was me e m same is vertices went p
 pub marker_was_marked : (old mid new : Seat ℕ Role) (shape : MarkerShape) (n place v w : ℕ) → IsMarker old → marker_shape old ≡ shape → (marker_of old.me.0).vertices ≡ n → place ≡ 2 * n + 1 + v
     → mid.table_id ≡ old.table_id → mid.me ≡ (at_marker (marker_notes place) old.me.0, old.me.1) → new.table_id ≡ mid.table_id → new.me ≡ (at_marker (marker_mark (marked_at (v + 1))) mid.me.0, mid.me.1) → v ≡ w
     → marker_shape new ≡ record shape { state = marker_marked w shape.state }
-marker_was_marked old mid new shape n place v w is view vertices place_is table me table' me' same =
-    let a = after_marker (marker_notes place) old.me mid.me is.me_is me in
-    let b = after_marker (marker_mark (marked_at (v + 1))) mid.me new.me a.0 me' in
-    let noted : noted_at (marker_of old.me.0).vertices place ≡ v = ap (noted_at (marker_of old.me.0).vertices) place_is ∙ noted_is n (marker_of old.me.0).vertices v vertices in
-    let state : marker_of new.me.0 ≡ marker_mark (marked_at (v + 1)) (marker_notes place (marker_of old.me.0)) = b.1 ∙ ap (marker_mark (marked_at (v + 1))) a.1 in
-    let both : marker_mark (marked_at (v + 1)) (marker_notes place (marker_of old.me.0)) ≡ marker_marked w (marker_of old.me.0) = (λ i. marker_mark ((pred_is v ∙ same) i) (marker_noted ((noted ∙ same) i) (marker_of old.me.0))) in
-    λ i. record { table = (table' ∙ (table ∙ ap (λ z. z.table) view)) i; state = (state ∙ (both ∙ ap (λ z. marker_marked w z.state) view)) i }
+marker_was_marked old mid new shape n place v w is view vertices place_is table me table' me' same = grind (arith, nat_tests, after_marker, noted_is, pred_is, is.me_is)

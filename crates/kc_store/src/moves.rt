@@ -1,4 +1,4 @@
-// Reading of a plan by places.
+//! Reading of a plan by places.
 ghost use Rattle.std.specs.Prelude.{◌≡◌, ℕ, ◌^◌, ◌<◌, Some};
 ghost use Rattle.std.specs.List.{slice_get};
 ghost use Rattle.kc_history.specs.declared.entries.Entry.{Entry as EntryShape};

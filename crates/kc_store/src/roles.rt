@@ -1,4 +1,4 @@
-// The state of each seat of the table. No value of these types is made: contracts and the store's rule name them.
+//! The state of each seat of the table. No value of these types is made: contracts and the store's rule name them.
 use kc_groups::PhasePlan;
 use kc_history::Entry;
 use std::collections::LinkedList;

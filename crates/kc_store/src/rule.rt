@@ -1,4 +1,4 @@
-// The rule of the table, and what its seat learns from each kind of step.
+//! The rule of the table, and what its seat learns from each kind of step.
 use crate::roles::Role;
 use atomic_table::{Join, Play, Seat, Split, TableRule};
 use std::marker::{Brand, PhantomData};
@@ -148,14 +148,14 @@ impl Split<Role> for NewPass {
     ghost right = { new_pass };
 }
 
-// A pass is joined.
-pub(crate) struct TakesIn;
+// A pass or a marker is joined.
+pub(crate) struct TakesBack;
 
-impl Join<Role> for TakesIn {
-    ghost use Rattle.kc_store.specs.private.Steps.{took_in};
+impl Join<Role> for TakesBack {
+    ghost use Rattle.kc_store.specs.private.Steps.{took_back};
     ghost use Rattle.kc_store.specs.declared.roles.Role.TheVariants.{Spent};
 
-    ghost both = { took_in };
+    ghost both = { took_back };
 
     ghost spent = { Spent };
 }
@@ -199,16 +199,4 @@ impl<J: Ranged> Split<Role> for Lends<J> {
     ghost left = { lender J.group J.low J.high };
 
     ghost right = { lent_to J.group J.low J.high };
-}
-
-// A marker is given back.
-pub(crate) struct GetsBack;
-
-impl Join<Role> for GetsBack {
-    ghost use Rattle.kc_store.specs.private.Steps.{got_back};
-    ghost use Rattle.kc_store.specs.declared.roles.Role.TheVariants.{Spent};
-
-    ghost both = { got_back };
-
-    ghost spent = { Spent };
 }

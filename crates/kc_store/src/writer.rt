@@ -8,8 +8,8 @@ ghost use Rattle.kc_store.specs.States.{MayBegin, MayPublish, AreNotLent, with_p
 use crate::marker::Marker;
 use crate::moves::{group_at, label_of, move_at, phase_of, word_of};
 use crate::rule::{
-    Begins, Clears, GetsBack, Lends, Marks, NewPass, Notes, Place, Planned, Publishes, Ranged,
-    TakesIn, Tells,
+    Begins, Clears, Lends, Marks, NewPass, Notes, Place, Planned, Publishes, Ranged, TakesBack,
+    Tells,
 };
 use crate::store::{Pass, Store};
 use kc_groups::PhasePlan;
@@ -140,7 +140,7 @@ impl Writer {
         store
             .table
             .shared
-            .join_seat::<TakesIn>(&mut self.seat, seat);
+            .join_seat::<TakesBack>(&mut self.seat, seat);
         store.table.shared.load::<Tells>(&mut self.seat, 0);
     }
 
@@ -185,6 +185,6 @@ impl Writer {
         store
             .table
             .shared
-            .join_seat::<GetsBack>(&mut self.seat, seat);
+            .join_seat::<TakesBack>(&mut self.seat, seat);
     }
 }

@@ -1,8 +1,7 @@
 -- Runs of digits of any length.
-use Rattle.std.proofs.Common.{ℕ, ◌+◌, ◌-◌, ◌*◌, ◌<◌, ◌≤◌, ◌≡◌, ◌^◌, Bool, true, false, List, [], ◌∷◌, ◌++◌, length, drop, refl, sym, ap, ◌∙◌, arith, get_or, inl, inr}
+use Rattle.std.proofs.Common.{ℕ, ◌+◌, ◌-◌, ◌*◌, ◌<◌, ◌≤◌, ◌≡◌, ◌^◌, Bool, true, false, List, [], ◌∷◌, ◌++◌, length, drop, refl, sym, ap, ◌∙◌, arith, get_or}
 use Rattle.std.specs.Prelude.{Some, None, nat_lt, nat_le, ◌&&◌, if◌then◌else◌}
 use Rattle.std.specs.List.{list_all, slice_range}
-use Rattle.std.proofs.lemmas.Bool.{cases_lt}
 use Rattle.std.proofs.lemmas.Bool.Decides.{nat_tests}
 use Rattle.std.proofs.lemmas.Option.{same_Some}
 use Rattle.std.proofs.lemmas.List.{get_or-take, get_or-drop, get_or_past, drop-drop}
@@ -27,14 +26,7 @@ range_at xs a b k h l =
 
 -- a run of at most ten digits that says a number
 pub digits_end : (bytes : List ℕ) (start value end : ℕ) → DigitsAt bytes start value end → start < end → end - start ≤ 10 → value < 2 ^ 32 → DigitsTo bytes start value end
-digits_end bytes start value end d h l s =
-    let n = range_length bytes start end d.after d.within in
-    record {
-      after = h;
-      within = d.within;
-      digits = d.digits;
-      number = number_is (slice_range bytes start end) value (omega (arith, n)) (omega (arith, n)) d.digits d.value_is s;
-    }
+digits_end bytes start value end d h l s = grind (arith, nat_tests, range_length, number_is, d.after, d.within, d.digits, d.value_is)
 
 -- each byte of a run is a digit
 pub digit_in : (line : List ℕ) (start end k : ℕ) → end ≤ length line → list_all is_digit (slice_range line start end) ≡ true → start ≤ k → k < end → is_digit (get_or line k 0) ≡ true
@@ -49,17 +41,11 @@ differ false e f = cc
 
 -- a run that stops is no shorter than another from the same place
 no_shorter : (line : List ℕ) (start end k : ℕ) → end ≤ length line → list_all is_digit (slice_range line start end) ≡ true → start ≤ k → StopsAt line k → end ≤ k
-no_shorter line start end k w d h s = elim (cases_lt k end) [
-  | inl less ↦ absurd (differ (is_digit (get_or line k 0)) (digit_in line start end k w d h less) s)
-  | inr more ↦ more
-]
+no_shorter line start end k w d h s = grind (arith, nat_tests, differ, digit_in)
 
 -- so two runs from one place are the same if both stop
 pub same_end : (line : List ℕ) (start first one second two : ℕ) → DigitsTo line start first one → StopsAt line one → DigitsTo line start second two → StopsAt line two → one ≡ two
-same_end line start first one second two a s b t =
-    let x = no_shorter line start one two a.within a.digits (omega (arith, b.after)) t in
-    let y = no_shorter line start two one b.within b.digits (omega (arith, a.after)) s in
-    omega (arith, x, y)
+same_end line start first one second two a s b t = grind (arith, nat_tests, no_shorter, a.within, a.digits, b.after, b.within, b.digits, a.after)
 
 value_append : (v : ℕ) (a b : List ℕ) → value_from v (a ++ b) ≡ value_from (value_from v a) b
 unfolding value_from
@@ -105,10 +91,7 @@ no_digit line start stop = λ v end n s. differ _ (digit_in line start end start
 
 -- no number stands where there are too many digits
 pub too_many : (line : List ℕ) (start value at : ℕ) → DigitsAt line start value at → StopsAt line at → 10 < at - start → HasNoNumber line start
-too_many line start value at d stop h = λ v end n s.
-    let long = no_shorter line start at end d.within d.digits (omega (arith, n.after)) s in
-    let w = number_has (slice_range line start end) v n.number in
-    omega (arith, h, long, w.few, range_length line start end (omega (arith, n.after)) n.within)
+too_many line start value at d stop h = grind (arith, nat_tests, no_shorter, number_has, range_length, d.within, d.digits)
 
 pub past_stops : (line : List ℕ) (at : ℕ) → length line ≤ at → StopsAt line at
 past_stops line at h = rw (get_or_past line at 0 h) refl

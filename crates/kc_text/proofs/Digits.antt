@@ -1,5 +1,5 @@
 -- Steps of a number that is read digit by digit.
-use Rattle.std.proofs.Common.{ℕ, ◌+◌, ◌-◌, ◌*◌, ◌^◌, ◌<◌, ◌≤◌, ◌≡◌, Bool, true, false, List, [], ◌∷◌, length, drop, refl, sym, arith, add-one, drop-cons, get_or}
+use Rattle.std.proofs.Common.{ℕ, ◌+◌, ◌-◌, ◌*◌, ◌^◌, ◌<◌, ◌≤◌, ◌≡◌, Bool, true, false, List, [], ◌∷◌, length, drop, refl, arith, add-one, drop-cons, get_or}
 use Rattle.std.specs.Prelude.{Option, Some, None, ◌&&◌, nat_lt, nat_le, if◌then◌else◌}
 use Rattle.std.specs.List.{list_all}
 use Rattle.std.proofs.lemmas.Bool.Decides.{nat_tests}
@@ -49,9 +49,6 @@ from_is v (d ∷ ds) h = step_same (is_digit d) (nat_lt (10 * v + (d - 48)) (2 ^
     (λ e. from_is (10 * v + (d - 48)) ds (grind (arith, nat_tests, e)))
 
 pub number_is : (bs : List ℕ) → number_of bs ≡ (if nat_lt 0 (length bs) && nat_le (length bs) 10 then number_from 0 bs else None)
-number_is bs = elim (nat_lt 0 (length bs) && nat_le (length bs) 10) as (λ b. (if b && (list_all is_digit bs && nat_lt (value_from 0 bs) (2 ^ 32)) then Some (value_from 0 bs) else None) ≡ (if b then number_from 0 bs else None)) [
-  | true ↦ sym (from_is 0 bs (omega arith))
-  | false ↦ refl
-]
+number_is bs = grind (arith, nat_tests, from_is)
 
 pub ruleset steps = (number_step, number_end, nat_tests, number_is)

@@ -1,21 +1,21 @@
 -- The lines that a scanner gives, and the bytes that it takes.
-use Rattle.std.proofs.Common.{ℕ, suc, ◌+◌, ◌-◌, ◌<◌, ◌≤◌, ◌≡◌, ◌==◌, List, [], ◌∷◌, ◌++◌, length, take, drop, arith, refl, sym, ap, ◌∙◌, subst, append_assoc, get_or, true, false, Bool, cond, nat_le, add-one, drop-cons, replicate, inl, inr}
+use Rattle.std.proofs.Common.{ℕ, suc, ◌+◌, ◌-◌, ◌<◌, ◌≤◌, ◌≡◌, ◌==◌, List, [], ◌∷◌, ◌++◌, length, take, drop, arith, refl, sym, ap, ◌∙◌, subst, append_assoc, get_or, true, false, Bool, nat_le, add-one, drop-cons, inl, inr}
 use Rattle.std.specs.Prelude.{Option, None, Some, if◌then◌else◌, ◌&&◌, ◌||◌, nat_lt, not, ◌*◌}
-use Rattle.std.proofs.lemmas.List.{length-append, length-take-le, take-append-drop, length-replicate, length-drop, get_or-take}
+use Rattle.std.proofs.lemmas.List.{length-append, length-take-le, take-append-drop, length-drop, get_or-take}
 use Rattle.std.proofs.lemmas.Bool.Decides.{nat_tests}
 use Rattle.std.proofs.lemmas.Bool.{cases_lt}
 use Rattle.kc_text.specs.declared.line.Line.{Line}
 use Rattle.kc_text.specs.declared.line.Body.{Body}
 use Rattle.kc_text.specs.declared.line.Body.TheVariants.{Text, TooLong, Limit, End}
-use Rattle.kc_text.specs.Lines.{lines, lines_from, line_of, last_of, at_limit, body_of, without_cr}
+use Rattle.kc_text.specs.Lines.{lines, lines_from, numbered_line, last_of, at_limit, body_of, without_cr}
 use Rattle.std.specs.Io.KnownBytes.{prepend_known, IsAtEnd}
 use Rattle.std.specs.Option.{option_map}
 use Rattle.std.specs.List.{list_any}
 use borrow.Author.Tests.{ltb-true}
 use Rattle.kc_text.specs.Following.{onto, behind, Takes, IsLast}
-use Rattle.kc_text.specs.Scanning.{Scan, scan_lines, is_scan_decided, IsWhole, whole_line}
+use Rattle.kc_text.specs.Scanning.{Scan, scan_lines, is_scan_decided}
+use Rattle.kc_text.specs.WholeLines.{IsWhole, whole_line}
 use Rattle.kc_text.specs.private.Scanning.{scan_lines_left}
-use Rattle.kc_text.specs.private.ScannerState.{piece_of}
 use Rattle.kc_text.specs.private.ScannerSteps.{Gives, Absorbs}
 use Rattle.kc_text.proofs.Passing.{HasNoEnd, pass_over, line_closed, limit_met, over_same}
 use Rattle.kc_text.proofs.Ends.{FirstEnd}
@@ -51,7 +51,7 @@ cut_at ready at h e =
 
 -- the lines of a rest that begins with c and an end
 closed : (limit n room room' : ℕ) (piece ready c d more : List ℕ) → ready ≡ c ++ 10 ∷ d → room ≡ length c + suc room' → HasNoEnd c
-    → lines_from limit n room piece (ready ++ more) ≡ line_of limit n (piece ++ c) ∷ lines_from limit (n + 1) room' [] (d ++ more)
+    → lines_from limit n room piece (ready ++ more) ≡ numbered_line limit n (piece ++ c) ∷ lines_from limit (n + 1) room' [] (d ++ more)
 closed limit n room room' piece ready c d more e er h = rw (e, append_assoc) (line_closed limit n room' room piece c (d ++ more) er h)
 
 pub gives_line : (limit n room : ℕ) (piece ready : List ℕ) (ended : Bool) (within at : ℕ) (body : Body) (room' : ℕ) (piece' ready' : List ℕ)
@@ -60,16 +60,7 @@ pub gives_line : (limit n room : ℕ) (piece ready : List ℕ) (ended : Bool) (w
     → Gives (record { number = n; body = body }) (record { limit = limit; number = n; room = room; piece = piece; ready = ready; ended = ended })
     (record { limit = limit; number = n + 1; room = room'; piece = piece'; ready = ready'; ended = ended })
 unfolding scan_lines
-gives_line limit n room piece ready ended within at body room' piece' ready' w1 w2 f e er ep ed =
-    let lt = f.below in
-    record {
-      lines = λ bs.
-          let more = if ended then [] else bs in
-          rw (e, ep, ed, behind_line) (closed limit n room room' piece ready (take at ready) (drop (at + 1) ready) more (cut_at ready at (omega arith) f.here) (omega (arith, length-take-le at ready (omega arith))) f.before);
-      takes = rw (e, ep) (takes_line limit (piece ++ take at ready) _ _ (omega arith));
-      last = λ h. absurd (not_last limit _ (subst IsLast e h));
-      settled = λ h. absurd (not_last limit _ (subst IsLast e h));
-    }
+gives_line limit n room piece ready ended within at body room' piece' ready' w1 w2 f e er ep ed = grind (arith, nat_tests, behind_line, closed, cut_at, length-take-le, takes_line, not_last, f.below, f.here, f.before)
 
 -- the lines of a rest that is longer than the room, with no end within it
 limited : (limit n room : ℕ) (piece c d more : List ℕ) → room ≡ length c → HasNoEnd c → 0 < length d → lines_from limit n room piece ((c ++ d) ++ more) ≡ at_limit n
@@ -124,7 +115,7 @@ pub gives_end : (limit n room : ℕ) (piece ready : List ℕ) (ended : Bool) →
 unfolding scan_lines lines_from
 gives_end limit n room piece ready ended ep er ee = record { lines = λ bs. rw (ep, er, ee) refl; takes = omega arith; last = λ _. refl; settled = λ _. rw ee refl }
 
-last_line : (limit n : ℕ) (piece : List ℕ) → 0 < length piece → last_of limit n piece ≡ line_of limit n piece ∷ record { number = n + 1; body = End } ∷ []
+last_line : (limit n : ℕ) (piece : List ℕ) → 0 < length piece → last_of limit n piece ≡ numbered_line limit n piece ∷ record { number = n + 1; body = End } ∷ []
 last_line limit n [] h = absurd (omega arith)
 last_line limit n (x ∷ xs) h = refl
 
@@ -138,10 +129,6 @@ gives_last limit n room piece ready ended body piece' h er ee e ep = record {
   last = λ h. absurd (not_last limit _ (subst IsLast e h));
   settled = λ h. absurd (not_last limit _ (subst IsLast e h));
 }
-
--- nothing is kept of a line of which nothing is taken
-pub piece_none : (limit : ℕ) (part : List ℕ) → part ≡ [] → piece_of limit 0 part ≡ []
-piece_none limit part e = let none : List ℕ = [] in rw e (elim (nat_le 0 limit) as (λ b. cond b none none ≡ none) [ true ↦ refl | false ↦ refl ])
 
 short : (limit : ℕ) (piece : List ℕ) → length piece ≤ limit → body_of limit piece ≡ Text (without_cr piece)
 short limit piece h = grind (arith, nat_tests)
@@ -160,12 +147,6 @@ gives_whole limit n room piece ready ended len room' piece' ready' h er ep ed =
     } in
     gives_line limit n room piece ready ended (len + 1) len _ room' piece' ready' (omega (arith, h.within)) (omega (arith, h.room)) first (rw h.fresh (sym (short limit (take len ready) (omega (arith, l, h.few))))) er ep ed
 
--- nothing is kept of a line if nothing was taken of it
-pub piece_fresh : (limit taken : ℕ) (part part' : List ℕ) → length (piece_of limit taken part) ≡ taken → piece_of limit taken part ≡ [] → part' ≡ [] → piece_of limit taken part' ≡ []
-piece_fresh limit taken part part' e fresh none =
-    let z : taken ≡ 0 = sym e ∙ ap length fresh in
-    rw z (piece_none limit part' none)
-
 -- a read moves bytes from the source to the reader
 pub filled : (limit n room : ℕ) (piece ready new : List ℕ) (ended : Bool) (old left : Option (List ℕ)) → ready ≡ [] → ended ≡ false → old ≡ prepend_known new left
     → scan_lines_left (record { limit = limit; number = n; room = room; piece = piece; ready = new; ended = ended }) left ≡ scan_lines_left (record { limit = limit; number = n; room = room; piece = piece; ready = ready; ended = ended }) old
@@ -179,26 +160,6 @@ pub at_end : (limit n room : ℕ) (piece ready new : List ℕ) (ended : Bool) (o
 unfolding scan_lines_left scan_lines
 at_end limit n room piece ready new ended old None er ee en e h = rw e refl
 at_end limit n room piece ready new ended old (Some bs) er ee en e h = rw (e, er, ee, en, h) refl
-
-piece_small : (limit taken : ℕ) (part : List ℕ) → taken ≤ limit → piece_of limit taken part ≡ part
-piece_small limit taken part h = grind (arith, nat_tests)
-
-piece_large : (limit taken : ℕ) (part : List ℕ) → limit < taken → piece_of limit taken part ≡ replicate taken 0
-piece_large limit taken part h = grind (arith, nat_tests)
-
--- the piece after more bytes of the line
-pub record Grows (limit : ℕ) (piece more piece' : List ℕ) : Type 0 where
-  pub long : length piece' ≡ length piece + length more
-  pub same : length piece' ≤ limit → piece' ≡ piece ++ more
-
-pub piece_grows : (limit taken taken' : ℕ) (part more part' : List ℕ) → length (piece_of limit taken part) ≡ taken → taken' ≡ taken + length more
-    → (taken + length more ≤ limit → part' ≡ part ++ more) → Grows limit (piece_of limit taken part) more (piece_of limit taken' part')
-piece_grows limit taken taken' part more part' h e k = elim (cases_lt limit taken') [
-  | inl large ↦ let b = piece_large limit taken' part' large in
-      record { long = rw b (simp length-replicate (omega arith)); same = rw b (λ small. absurd (omega (arith, simp length-replicate at small))) }
-  | inr small ↦ let b = piece_small limit taken' part' small in let a = piece_small limit taken part (omega arith) in let j = k (omega arith) in
-      record { long = rw (a, b, j) (simp length-append refl); same = rw (a, b, j) (λ _. refl) }
-]
 
 pub told_line : (line : Line) (old new : Scan) (left : Option (List ℕ)) → Gives line old new → scan_lines_left old left ≡ option_map (onto line) (scan_lines_left new left)
 unfolding scan_lines_left

@@ -9,6 +9,7 @@ mod Known
 mod NamedLines
 mod NumberLines
 mod Numbering
+mod OpenLines
 mod Passing
 mod Pieces
 mod PrintedText

@@ -69,9 +69,5 @@ stands bytes name len first second e t =
       numbers = s.numbers;
     }
 
--- no line of the name and two numbers begins the bytes if the name or the numbers don't stand there
-pub no_name : (bytes name : List ℕ) → (BeginsWithName bytes name → ⊥) → HaveNoNamedLine bytes name
-no_name bytes name h = λ len e first second t. h (stands bytes name len first second e t).front
-
 pub no_numbers : (bytes name : List ℕ) → HaveNoNumbers bytes (length name + 1) → HaveNoNamedLine bytes name
 no_numbers bytes name h = λ len e first second t. h first second len (stands bytes name len first second e t).numbers

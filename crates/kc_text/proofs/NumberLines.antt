@@ -1,6 +1,6 @@
 -- Lines of two numbers that are read in one pass.
 use Rattle.std.proofs.Common.{ℕ, zero, suc, ◌+◌, ◌-◌, ◌<◌, ◌≤◌, ◌≡◌, Bool, true, false, List, [], ◌∷◌, ◌++◌, length, take, drop, refl, sym, ap, subst, ◌∙◌, arith, get_or, inl, inr}
-use Rattle.std.specs.Prelude.{Option, Some, None, IfNone, min, is_some, ◌==◌, if◌then◌else◌}
+use Rattle.std.specs.Prelude.{Option, Some, None, IfNone, is_some, nat_lt, ◌==◌, if◌then◌else◌}
 use Rattle.std.specs.List.{list_all, slice_range}
 use Rattle.std.proofs.lemmas.Bool.{cases_lt}
 use Rattle.std.proofs.lemmas.Bool.Decides.{nat_tests}
@@ -17,7 +17,7 @@ use Rattle.kc_text.specs.Numbers.{is_digit, number_of}
 use Rattle.kc_text.specs.NumberLines.{with_sign, IsFront, EndsInNumbers, IsTwoNumbers}
 use Rattle.kc_text.specs.private.WholeLines.{EndsAt}
 use Rattle.kc_text.specs.private.Numbers.{DigitsTo, StopsAt, HasNoNumber}
-use Rattle.kc_text.specs.private.NumberLines.{sign_of, BeginsAt, FrontStands, ClosesAt, NumbersStand, HaveNoNumbers, HaveNoNumberLine, NumbersTo, IsNumberLine, is_plain}
+use Rattle.kc_text.specs.private.NumberLines.{sign_of, front_by, front_of, BeginsAt, ClosesAt, NumbersStand, HaveNoNumbers, HaveNoNumberLine, NumbersTo, IsNumberLine, is_plain}
 use Rattle.kc_text.proofs.DigitRuns.{range_split, digit_in, same_end, number_has, differ}
 use Rattle.kc_text.proofs.Numbering.{range_length, empty_range, digit_no_blank}
 use Rattle.kc_text.proofs.Runs.{run_goes_on, last_run}
@@ -55,13 +55,30 @@ unfolding words_from
 begins Plus x y more e b = record { within = omega arith; words_are = λ rest. rw (e, b) refl; plain = plain_two x y more (rw e refl) (blank_no_end y b) }
 begins Minus x y more e b = record { within = omega arith; words_are = λ rest. rw (e, b) refl; plain = plain_two x y more (rw e refl) (blank_no_end y b) }
 
-pub begins_signed : (bytes : List ℕ) (sign : Option Sign) → 2 ≤ length bytes → sign ≡ sign_of (get_or bytes 0 0) → is_some sign ≡ true → is_blank (get_or bytes 1 0) ≡ true → BeginsAt bytes (with_sign sign) 2
-begins_signed [] sign h e s b = absurd (omega arith)
-begins_signed (x ∷ []) sign h e s b = absurd (omega arith)
-begins_signed (x ∷ y ∷ more) None h e s b = absurd cc
-begins_signed (x ∷ y ∷ more) (Some sign) h e s b = begins sign x y more (sign_byte x (x == 43) (x == 45) sign refl refl e) b
+sign_in : (found sign : Option Sign) (at start : ℕ) → ◌≡◌ {A = Option (Option Sign × ℕ)} (Some (found, at)) (Some (sign, start)) → sign ≡ found
+sign_in found sign at start e = ap (λ (p : Option Sign × ℕ). p.0) (sym (same_Some _ _ e))
 
-pub ruleset begin_steps = (begins_bare, begins_signed, nat_tests)
+start_in : (found sign : Option Sign) (at start : ℕ) → ◌≡◌ {A = Option (Option Sign × ℕ)} (Some (found, at)) (Some (sign, start)) → start ≡ at
+start_in found sign at start e = ap (λ (p : Option Sign × ℕ). p.1) (sym (same_Some _ _ e))
+
+begins_by : (x y : ℕ) (more : List ℕ) (found : Option Sign) (blank : Bool) (sign : Option Sign) (start : ℕ) → found ≡ sign_of x → is_blank y ≡ blank → front_by found y ≡ Some (sign, start)
+    → BeginsAt (x ∷ y ∷ more) (with_sign sign) start
+begins_by x y more None blank sign start e b f = rw (sign_in _ _ _ _ f, start_in _ _ _ _ f) (begins_bare (x ∷ y ∷ more))
+begins_by x y more (Some found) false sign start e b f = absurd cc
+begins_by x y more (Some found) true sign start e b f =
+    let g = rw b at f in
+    rw (sign_in _ _ _ _ g, start_in _ _ _ _ g) (begins found x y more (sign_byte x (x == 43) (x == 45) found refl refl e) b)
+
+front_is : (x y : ℕ) (more : List ℕ) → front_of (x ∷ y ∷ more) ≡ front_by (sign_of x) y
+unfolding front_of
+front_is x y more = let long : nat_lt (length (x ∷ y ∷ more)) 2 ≡ false = grind (arith, nat_tests) in rw long refl
+
+-- a line that begins with these bytes has the words of its front
+pub begins_front : (bytes : List ℕ) (sign : Option Sign) (start : ℕ) → ◌≡◌ {A = Option (Option Sign × ℕ)} (Some (sign, start)) (front_of bytes) → BeginsAt bytes (with_sign sign) start
+unfolding front_of
+begins_front [] sign start f = absurd cc
+begins_front (x ∷ []) sign start f = absurd cc
+begins_front (x ∷ y ∷ more) sign start f = begins_by x y more (sign_of x) (is_blank y) sign start refl refl (sym (f ∙ front_is x y more))
 
 -- a line's end
 pub closes_here : (bytes : List ℕ) (end : ℕ) → end < length bytes → get_or bytes end 0 ≡ 10 → ClosesAt bytes end end
@@ -121,10 +138,7 @@ blank_stops : (b : ℕ) → is_blank b ≡ true → is_digit b ≡ false
 blank_stops b e = grind (arith, nat_tests, e)
 
 close_stops : (bytes : List ℕ) (end len : ℕ) → ClosesAt bytes end len → StopsAt bytes end
-close_stops bytes end len c = elim (cases_lt end len) [
-  | inl more ↦ rw (c.before more) refl
-  | inr none ↦ let at : end ≡ len = omega (arith, c.after) in rw (at, c.here) refl
-]
+close_stops bytes end len c = grind (arith, nat_tests, c.before, c.after, c.here)
 
 -- the first number stands where digits were found
 there : (bytes : List ℕ) (start value middle first second len : ℕ) → DigitsTo bytes start value middle → StopsAt bytes middle → (s : NumbersStand bytes start first second len) → s.middle ≡ middle
@@ -175,23 +189,14 @@ goes bytes n l e =
     rw (length-take-le (n + 1) bytes (omega arith), m, get_or-take (n + 1) bytes n 0 (omega arith), e) (take-take n (n + 1) bytes (omega arith))
 
 text_is : (bytes : List ℕ) (end len : ℕ) → 0 < end → ClosesAt bytes end len → is_plain (get_or bytes (end - 1) 0) ≡ true → without_cr (take len bytes) ≡ take end bytes
-text_is bytes end len h c p = elim (cases_lt end len) [
-  | inl more ↦ let at : len ≡ end + 1 = omega (arith, c.near) in rw at (goes bytes end (omega (arith, c.within)) (c.before more))
-  | inr none ↦ let at : len ≡ end = omega (arith, c.after) in rw at (stays bytes end h (omega (arith, c.within, at)) (plain_no_cr _ p))
-]
+text_is bytes end len h c p = grind (arith, nat_tests, goes, stays, plain_no_cr, c.near, c.within, c.before, c.after)
 
 -- a line ends where the numbers after its front do
 pub line_ends : (bytes : List ℕ) (front : List (List ℕ) → List (List ℕ)) (start first second len : ℕ) → BeginsAt bytes front start → NumbersTo bytes start first second len → EndsAt bytes len
 line_ends bytes front start first second len b n = record {
   within = n.closes.within;
   here = n.closes.here;
-  before = λ k lt. elim (cases_lt k start) [
-    | inl before ↦ b.plain k before
-    | inr back ↦ elim (cases_lt k n.end) [
-      | inl number ↦ plain_no_end _ (n.plain k back number)
-      | inr cr ↦ let at : k ≡ n.end = omega (arith, n.closes.near) in rw at (cr_no_end _ (n.closes.before (omega (arith, at, lt))))
-    ]
-  ];
+  before = λ k lt. grind (arith, nat_tests, plain_no_end, cr_no_end, b.plain, n.end, n.plain, n.closes.near, n.closes.before);
 }
 
 -- the words of the line are those of the front and the two numbers
@@ -203,18 +208,20 @@ line_words bytes front start first second len b n =
     let all : take n.end bytes ≡ take start bytes ++ slice_range bytes start n.end = ap (λ k. take k bytes) e ∙ take-add start (n.end - start) bytes in
     ap words (text ∙ all) ∙ b.words_are (slice_range bytes start n.end) ∙ ap front n.says.words_are
 
-pub number_line : (bytes : List ℕ) (sign : Option Sign) (start first second len : ℕ) → BeginsAt bytes (with_sign sign) start → NumbersTo bytes start first second len
+pub number_line : (bytes : List ℕ) (sign : Option Sign) (start first second len : ℕ) → ◌≡◌ {A = Option (Option Sign × ℕ)} (Some (sign, start)) (front_of bytes) → NumbersTo bytes start first second len
     → IsNumberLine bytes (record { sign = sign; first = first; second = second; len = len })
-number_line bytes sign start first second len b n = record {
-  ends = line_ends bytes (with_sign sign) start first second len b n;
-  says = record {
-    one = n.says.one;
-    two = n.says.two;
-    words_are = line_words bytes (with_sign sign) start first second len b n;
-    one_is = n.says.one_is;
-    two_is = n.says.two_is;
-  };
-}
+number_line bytes sign start first second len f n =
+    let b = begins_front bytes sign start f in
+    record {
+      ends = line_ends bytes (with_sign sign) start first second len b n;
+      says = record {
+        one = n.says.one;
+        two = n.says.two;
+        words_are = line_words bytes (with_sign sign) start first second len b n;
+        one_is = n.says.one_is;
+        two_is = n.says.two_is;
+      };
+    }
 
 -- the bytes of a line before its end
 pub record Text (bytes : List ℕ) (len : ℕ) : Type 0 where
@@ -257,10 +264,10 @@ digits_of bytes start end value h l e =
     let w = number_has (slice_range bytes start end) value e in
     record { after = omega (arith, w.some, range_length bytes start end h l); within = l; digits = w.digits; number = e }
 
-front_of : (n : ℕ) (bytes : List ℕ) (sign : Option Sign) (start : ℕ) → 2 ≤ n → IsFront (take n bytes) sign start → IsFront bytes sign start
-front_of n bytes None start h f = f
-front_of n bytes (Some Plus) start h f = (f.0, (rw (get_or-take n bytes 0 0 (omega arith)) at f.1.0, rw (get_or-take n bytes 1 0 (omega arith)) at f.1.1))
-front_of n bytes (Some Minus) start h f = (f.0, (rw (get_or-take n bytes 0 0 (omega arith)) at f.1.0, rw (get_or-take n bytes 1 0 (omega arith)) at f.1.1))
+front_whole : (n : ℕ) (bytes : List ℕ) (sign : Option Sign) (start : ℕ) → 2 ≤ n → IsFront (take n bytes) sign start → IsFront bytes sign start
+front_whole n bytes None start h f = f
+front_whole n bytes (Some Plus) start h f = (f.0, (rw (get_or-take n bytes 0 0 (omega arith)) at f.1.0, rw (get_or-take n bytes 1 0 (omega arith)) at f.1.1))
+front_whole n bytes (Some Minus) start h f = (f.0, (rw (get_or-take n bytes 0 0 (omega arith)) at f.1.0, rw (get_or-take n bytes 1 0 (omega arith)) at f.1.1))
 
 no_blank_past : (b : ℕ) → b ≡ 0 → is_blank b ≡ true → ⊥
 no_blank_past b z e = differ (is_blank b) e (rw z refl)
@@ -271,26 +278,24 @@ pub record Standing (bytes : List ℕ) (end start first second len : ℕ) : Type
   pub numbers : NumbersStand bytes start first second len
 
 pub numbers_in : (bytes : List ℕ) (end len start first second : ℕ) → ClosesAt bytes end len → EndsInNumbers (take end bytes) start first second → Standing bytes end start first second len
-numbers_in bytes end len start first second c t =
-    let l = length-take-le end bytes (omega (arith, c.after, c.within)) in
-    let w = number_has (slice_range (take end bytes) start t.middle) first t.one in
-    let n : length (slice_range (take end bytes) start t.middle) ≡ min (t.middle - start) (length (take end bytes) - start) = simp (length-take, length-drop) refl in
-    let some : start < t.middle = omega (arith, w.some, n) in
-    let inside : t.middle < end = elim (cases_lt t.middle end) [
-      | inl less ↦ less
-      | inr past ↦ absurd (no_blank_past _ (get_or_past (take end bytes) t.middle 0 (omega (arith, l, past))) t.blank)
-    ] in
-    record {
-      after = omega (arith, some, inside);
-      numbers = record {
-        middle = t.middle;
-        end = end;
-        one = digits_of bytes start t.middle first (omega (arith, some)) (omega (arith, inside, c.after, c.within)) (rw (range_take end bytes start t.middle (omega (arith, some)) (omega (arith, inside))) at t.one);
-        blank = rw (get_or-take end bytes t.middle 0 inside) at t.blank;
-        two = digits_of bytes (t.middle + 1) end second (omega (arith, inside)) (omega (arith, c.after, c.within)) (rw (drop_range end bytes (t.middle + 1) (omega (arith, inside))) at t.two);
-        closes = c;
-      };
-    }
+numbers_in bytes end len start first second c t = grind (arith, nat_tests, length-take-le, number_has, length-take, length-drop, no_blank_past, get_or_past, numbers, digits_of, range_take, get_or-take, drop_range, c.after, c.within, t.middle, t.one, t.blank, t.two)
+
+-- a line that begins with these bytes has this sign, or none, and its numbers begin at `start`
+record FrontStands (bytes : List ℕ) (sign : Option Sign) (start : ℕ) : Type 0 where
+  more : 2 ≤ length bytes
+  front : IsFront bytes sign start
+  digit : is_digit (get_or bytes start 0) ≡ true
+
+digit_no_sign : (b : ℕ) → is_digit b ≡ true → sign_of b ≡ None
+digit_no_sign b e = grind (arith, nat_tests, e)
+
+front_found : (bytes : List ℕ) (sign : Option Sign) (start : ℕ) → FrontStands bytes sign start → front_of bytes ≡ Some (sign, start)
+unfolding front_of
+front_found [] sign start f = absurd (omega (arith, f.more))
+front_found (x ∷ []) sign start f = absurd (omega (arith, f.more))
+front_found (x ∷ y ∷ more) None start f = front_is x y more ∙ rw (f.front, digit_no_sign x (rw f.front at f.digit)) refl
+front_found (x ∷ y ∷ more) (Some Plus) start f = front_is x y more ∙ rw (f.front.0, f.front.1.0, f.front.1.1) refl
+front_found (x ∷ y ∷ more) (Some Minus) start f = front_is x y more ∙ rw (f.front.0, f.front.1.0, f.front.1.1) refl
 
 -- the places of the parts of a line of two numbers
 record Stands (bytes : List ℕ) (sign : Option Sign) (first second len : ℕ) : Type 0 where
@@ -306,7 +311,7 @@ stands_in bytes end len sign first second c t =
       start = t.start;
       front = record {
         more = omega (arith, s.after, c.after, c.within);
-        front = front_of end bytes sign t.start (omega (arith, s.after)) t.front;
+        front = front_whole end bytes sign t.start (omega (arith, s.after)) t.front;
         digit = digit_in bytes t.start s.numbers.middle t.start one.within one.digits (omega arith) one.after;
       };
       numbers = s.numbers;
@@ -318,13 +323,17 @@ stands bytes len sign first second e t =
     stands_in bytes text.end len sign first second text.closes (subst (λ x. IsTwoNumbers x sign first second) text.is t)
 
 -- no line of two numbers begins the bytes if its front or its numbers don't stand there
-pub no_front : (bytes : List ℕ) → ((sign : Option Sign) (start : ℕ) → FrontStands bytes sign start → ⊥) → HaveNoNumberLine bytes
-no_front bytes h = λ len e sign first second t. let s = stands bytes len sign first second e t in h sign s.start s.front
-
-pub no_numbers : (bytes : List ℕ) (start : ℕ) → ((sign : Option Sign) (other : ℕ) → FrontStands bytes sign other → other ≡ start) → HaveNoNumbers bytes start → HaveNoNumberLine bytes
-no_numbers bytes start same h = λ len e sign first second t.
+pub no_front : (bytes : List ℕ) → None ≡ front_of bytes → HaveNoNumberLine bytes
+no_front bytes h = λ len e sign first second t.
     let s = stands bytes len sign first second e t in
-    h first second len (subst (λ k. NumbersStand bytes k first second len) (same sign s.start s.front) s.numbers)
+    let found : front_of bytes ≡ Some (sign, s.start) = front_found bytes sign s.start s.front in
+    cc
+
+pub no_numbers : (bytes : List ℕ) (sign : Option Sign) (start : ℕ) → ◌≡◌ {A = Option (Option Sign × ℕ)} (Some (sign, start)) (front_of bytes) → HaveNoNumbers bytes start → HaveNoNumberLine bytes
+no_numbers bytes sign start f h = λ len e other first second t.
+    let s = stands bytes len other first second e t in
+    let at = start_in sign other start s.start (f ∙ front_found bytes other s.start s.front) in
+    h first second len (subst (λ k. NumbersStand bytes k first second len) at s.numbers)
 
 pub none_weaker : {T P Q : Type 0} (r : Option T) → (P → Q) → IfNone r P → IfNone r Q
 none_weaker None f p = f p

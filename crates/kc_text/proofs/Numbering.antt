@@ -1,6 +1,6 @@
 -- Steps of a number that is read where it stands in a line.
 use Rattle.std.proofs.Common.{ℕ, ◌+◌, ◌-◌, ◌*◌, ◌^◌, ◌<◌, ◌≤◌, ◌≡◌, true, false, List, [], ◌∷◌, ◌++◌, length, drop, refl, subst, ◌∙◌, arith, get_or}
-use Rattle.std.specs.Prelude.{Some, nat_lt, nat_le}
+use Rattle.std.specs.Prelude.{Some}
 use Rattle.std.specs.List.{list_all, slice_range}
 use Rattle.std.proofs.lemmas.Bool.Decides.{nat_tests}
 use Rattle.std.proofs.lemmas.List.{length-take, length-drop}
@@ -51,11 +51,7 @@ count_digit line start value count more d l e m =
     subst (λ k. DigitsAt line start more k) next (more_digits line start value (start + count) more d l e m)
 
 pub number_is : (bs : List ℕ) (value : ℕ) → 0 < length bs → length bs ≤ 10 → list_all is_digit bs ≡ true → value_from 0 bs ≡ value → value < 2 ^ 32 → number_of bs ≡ Some value
-number_is bs value a b d e s =
-    let x : nat_lt 0 (length bs) ≡ true = grind (arith, nat_tests) in
-    let y : nat_le (length bs) 10 ≡ true = grind (arith, nat_tests) in
-    let z : nat_lt value (2 ^ 32) ≡ true = grind (arith, nat_tests) in
-    rw (x, y, d, e, z) refl
+number_is bs value a b d e s = grind (arith, nat_tests)
 
 pub range_length : (line : List ℕ) (start end : ℕ) → start ≤ end → end ≤ length line → length (slice_range line start end) ≡ end - start
 range_length line start end h l = simp (length-take, length-drop) (omega arith)
@@ -63,14 +59,7 @@ range_length line start end h l = simp (length-take, length-drop) (omega arith)
 -- the digits are a word
 number_at : (line : List ℕ) (start value end : ℕ) → DigitsAt line start value end → start < end → end - start ≤ 10 → value < 2 ^ 32
     → words_from (slice_range line start end) (drop end line) ≡ closed (slice_range line start end) (words (drop end line)) → NumberAt line start value end
-number_at line start value end d h l s e =
-    let n = range_length line start end d.after d.within in
-    record {
-      word = slice_range line start end;
-      within = d.within;
-      words_are = d.words_are ∙ e ∙ closed_some (slice_range line start end) _ (omega (arith, n));
-      number = number_is (slice_range line start end) value (omega (arith, n)) (omega (arith, n)) d.digits d.value_is s;
-    }
+number_at line start value end d h l s e = grind (arith, nat_tests, range_length, closed_some, number_is, d.after, d.within, d.words_are, d.digits, d.value_is)
 
 pub number_before_blank : (line : List ℕ) (start value end : ℕ) → DigitsAt line start value end → start < end → end - start ≤ 10 → value < 2 ^ 32 → end < length line → is_blank (get_or line end 0) ≡ true
     → NumberAt line start value end

@@ -2,7 +2,7 @@
 use Rattle.std.proofs.Common.{ℕ, zero, suc, ◌+◌, ◌<◌, ◌≡◌, ◌==◌, List, [], ◌∷◌, ◌++◌, length, arith, refl, sym, ◌∙◌, append_assoc, get_or, false}
 use Rattle.std.proofs.lemmas.List.{append-nil, length-append}
 use Rattle.std.proofs.lemmas.Bool.Decides.{nat_tests}
-use Rattle.kc_text.specs.Lines.{lines_from, line_of, last_of, at_limit, body_of}
+use Rattle.kc_text.specs.Lines.{lines_from, numbered_line, last_of, at_limit, body_of}
 use Rattle.kc_text.specs.declared.line.Body.TheVariants.{TooLong, End}
 
 -- no byte ends a line
@@ -35,7 +35,7 @@ over_same limit n (suc room) piece other (b ∷ bs) p q =
     rw (too_long limit piece p, too_long limit other q, over_same limit n room (piece ++ b ∷ []) (other ++ b ∷ []) bs (simp length-append (omega arith)) (simp length-append (omega arith))) refl
 
 -- the piece that a line's end closes
-pub line_closed : (limit n room total : ℕ) (piece c bs : List ℕ) → total ≡ length c + suc room → HasNoEnd c → lines_from limit n total piece (c ++ 10 ∷ bs) ≡ line_of limit n (piece ++ c) ∷ lines_from limit (n + 1) room [] bs
+pub line_closed : (limit n room total : ℕ) (piece c bs : List ℕ) → total ≡ length c + suc room → HasNoEnd c → lines_from limit n total piece (c ++ 10 ∷ bs) ≡ numbered_line limit n (piece ++ c) ∷ lines_from limit (n + 1) room [] bs
 unfolding lines_from
 line_closed limit n room total piece c bs e h = pass_over limit n (suc room) total piece c (10 ∷ bs) e h
 

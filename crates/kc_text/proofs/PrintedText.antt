@@ -11,7 +11,7 @@ use Rattle.std.proofs.lemmas.List.Folds.{list_all-append}
 use Rattle.kc_text.specs.declared.line.Line.{Line}
 use Rattle.kc_text.specs.declared.line.Body.TheVariants.{Text, End}
 use Rattle.kc_text.specs.Laws.{HasNoBlank}
-use Rattle.kc_text.specs.Lines.{lines, lines_from, line_of}
+use Rattle.kc_text.specs.Lines.{lines, lines_from, numbered_line}
 use Rattle.kc_text.specs.Numbers.{is_digit, value_from}
 use Rattle.kc_text.specs.Words.{words, is_blank}
 use Rattle.kc_text.specs.Printing.{is_word, is_line, printed_line, printed, lines_of_words}
@@ -29,9 +29,6 @@ no_blank [] e = All-nil (λ b. is_blank b ≡ false)
 no_blank (b ∷ w) e =
     let p = and_parts (nat_lt 32 b) (list_all (λ x. nat_lt 32 x) w) e in
     All-cons (λ x. is_blank x ≡ false) b w (not_blank b p.0) (no_blank w p.1)
-
-nothing_blank : HasNoBlank []
-nothing_blank = All-nil (λ b. is_blank b ≡ false)
 
 last_word : (w : List ℕ) → is_word w ≡ true → words w ≡ w ∷ []
 last_word [] e = absurd cc
@@ -145,7 +142,7 @@ no_return_at [] k e = refl
 no_return_at (b ∷ text) zero e = no_return b (and_parts (nat_lt 31 b) _ e).0
 no_return_at (b ∷ text) (suc k) e = no_return_at text k (and_parts (nat_lt 31 b) (list_all (λ x. nat_lt 31 x) text) e).1
 
-line_is : (limit n : ℕ) (text : List ℕ) → is_text text ≡ true → nat_le (length text) limit ≡ true → line_of limit n text ≡ record { number = n; body = Text text }
+line_is : (limit n : ℕ) (text : List ℕ) → is_text text ≡ true → nat_le (length text) limit ≡ true → numbered_line limit n text ≡ record { number = n; body = Text text }
 line_is limit n text e h = rw (h, no_return_at text (length text - 1) e) refl
 
 -- the first line apart from what follows it

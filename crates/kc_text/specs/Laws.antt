@@ -2,7 +2,7 @@
 use Rattle.std.specs.Prelude.{ℕ, ◌+◌, ◌≡◌, ◌≢◌, ◌≤◌, List, [], ◌∷◌, ◌++◌, length, All, Some, None, codes, true, false}
 use Rattle.kc_text.specs.declared.line.Line.{Line}
 use Rattle.kc_text.specs.declared.line.Body.TheVariants.{Text, TooLong, Limit, End}
-use Rattle.kc_text.specs.Lines.{lines, line_of, last_of, at_limit}
+use Rattle.kc_text.specs.Lines.{lines, numbered_line, last_of, at_limit}
 use Rattle.kc_text.specs.Words.{words, is_blank}
 use Rattle.kc_text.specs.Numbers.{number_of}
 
@@ -18,7 +18,7 @@ joined (piece ∷ pieces) last = piece ++ 10 ∷ joined pieces last
 -- the lines of pieces, numbered from n on
 abbrev pub numbered : ℕ → ℕ → List (List ℕ) → List Line
 numbered limit n [] = []
-numbered limit n (piece ∷ pieces) = line_of limit n piece ∷ numbered limit (n + 1) pieces
+numbered limit n (piece ∷ pieces) = numbered_line limit n piece ∷ numbered limit (n + 1) pieces
 
 -- the lines of an input within its limit are its pieces between line feeds, and the last piece if it isn't empty
 abbrev pub CutsAtEnds : Type 0

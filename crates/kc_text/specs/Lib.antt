@@ -12,6 +12,7 @@ pub mod Reading
 pub mod Reasons
 pub mod Scanning
 pub mod Telling
+pub mod WholeLines
 pub mod Words
 pub mod Writing
 pub mod private

@@ -13,13 +13,13 @@ abbrev pub body_of : ℕ → List ℕ → Body
 body_of limit piece = if nat_le (length piece) limit then Text (without_cr piece) else TooLong
 
 -- line n, of these bytes
-abbrev pub line_of : ℕ → ℕ → List ℕ → Line
-line_of limit n piece = record { number = n; body = body_of limit piece }
+abbrev pub numbered_line : ℕ → ℕ → List ℕ → Line
+numbered_line limit n piece = record { number = n; body = body_of limit piece }
 
 -- if the input ends after a piece: the piece is a line if it isn't empty
 abbrev pub last_of : ℕ → ℕ → List ℕ → List Line
 last_of limit n [] = record { number = n; body = End } ∷ []
-last_of limit n (x ∷ xs) = line_of limit n (x ∷ xs) ∷ record { number = n + 1; body = End } ∷ []
+last_of limit n (x ∷ xs) = numbered_line limit n (x ∷ xs) ∷ record { number = n + 1; body = End } ∷ []
 
 -- if the input passes its limit within line n
 abbrev pub at_limit : ℕ → List Line
@@ -30,7 +30,7 @@ unfoldable pub lines_from : ℕ → ℕ → ℕ → List ℕ → List ℕ → Li
 lines_from limit n room piece [] = last_of limit n piece
 lines_from limit n zero piece (b ∷ bs) = at_limit n
 lines_from limit n (suc room) piece (b ∷ bs) =
-    if b == 10 then line_of limit n piece ∷ lines_from limit (n + 1) room [] bs else lines_from limit n room (piece ++ b ∷ []) bs
+    if b == 10 then numbered_line limit n piece ∷ lines_from limit (n + 1) room [] bs else lines_from limit n room (piece ++ b ∷ []) bs
 
 -- the lines of an input: at most `limit` bytes each, of the first `room` bytes
 abbrev pub lines : ℕ → ℕ → List ℕ → List Line

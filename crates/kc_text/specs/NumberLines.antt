@@ -1,10 +1,20 @@
--- Lines of two numbers.
+-- The fast path for lines of two numbers: what it returns, and for which lines it returns nothing.
+--
+-- Most lines of large inputs are two numbers, such as `12 345`, `+ 12 345` or `edge 12 345`. `LineReader::number_line`
+-- and `numbers_after` read such a line in one pass over its bytes, if it lies whole in the reader's memory. Every other
+-- line goes the usual way: `next_line` and then the words of its text.
+--
+-- Both ways give the same. `SayNumbers` and `SayNamed` state what the fast path returns over `words` and `number_of`,
+-- which are all that the usual way uses. So no definition of an input's content rests on this page, and a reader of
+-- those definitions can pass over it.
 use Rattle.std.specs.Prelude.{ℕ, ◌+◌, ◌≡◌, true, List, [], ◌∷◌, length, take, drop, get_or, Option, Some, None, codes}
 use Rattle.std.specs.List.{slice_range}
 use Rattle.kc_text.specs.declared.number_line.Sign.{Sign}
 use Rattle.kc_text.specs.declared.number_line.Sign.TheVariants.{Plus, Minus}
 use Rattle.kc_text.specs.Words.{is_blank}
 use Rattle.kc_text.specs.Numbers.{number_of}
+
+-- 1. What the fast path returns, as words of the line.
 
 -- words with the word of a sign before them, if there is one
 abbrev pub with_sign : Option Sign → List (List ℕ) → List (List ℕ)
@@ -27,6 +37,8 @@ pub record SayNamed (ws : List (List ℕ)) (name : List ℕ) (first second : ℕ
   pub words_are : ws ≡ name ∷ one ∷ two ∷ []
   pub one_is : number_of one ≡ Some first
   pub two_is : number_of two ≡ Some second
+
+-- 2. The lines that the fast path takes, as bytes: it returns None for no other reason than that a line isn't one.
 
 -- from `start` on a text is two numbers with one blank between them
 pub record EndsInNumbers (text : List ℕ) (start first second : ℕ) : Type 0 where

@@ -1,11 +1,11 @@
 -- The contents of a line reader, and the lines that it has still to give.
-use Rattle.std.specs.Prelude.{ℕ, ◌+◌, ◌^◌, ◌≤◌, ◌≡◌, Bool, ◌||◌, List, [], ◌∷◌, Option, Some, None, is_some}
+use Rattle.std.specs.Prelude.{ℕ, ◌+◌, ◌^◌, ◌≤◌, Bool, ◌||◌, List, [], ◌∷◌, Option, Some, None, is_some}
 use Rattle.std.specs.Option.{option_map}
 use Rattle.kc_text.specs.declared.line.Line.{Line}
 use Rattle.kc_text.specs.declared.line.LastLine.{LastLine}
 use Rattle.kc_text.specs.declared.line.LastLine.TheVariants.{AtLimit, AtEnd}
 use Rattle.kc_text.specs.declared.line.Body.TheVariants.{Limit, End}
-use Rattle.kc_text.specs.Scanning.{Scan, scan_lines, scan_budget, is_scan_decided, IsWhole}
+use Rattle.kc_text.specs.Scanning.{Scan, scan_lines, scan_budget, is_scan_decided}
 pub use Rattle.kc_text.specs.Following.{behind, onto, IsLast, Takes}
 
 -- the contents of a line reader
@@ -52,12 +52,6 @@ held_budget (Some _) = 1
 -- the bytes that lines can still be made of: the measure of a loop over lines
 abbrev pub budget : Reading → ℕ
 budget r = scan_budget r.scan + held_budget r.held
-
--- no line was put back or is repeated, and the next line lies whole among the bytes that were read
-pub record HasWhole (len : ℕ) (r : Reading) : Type 0 where
-  pub held : r.held ≡ None
-  pub last : r.last ≡ None
-  pub scan : IsWhole len r.scan
 
 -- the facts that hold of each reader: an input has at most 2^30 bytes, and one line may be held back
 pub record IsReading (r : Reading) : Type 0 where

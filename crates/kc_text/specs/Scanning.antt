@@ -1,9 +1,8 @@
 -- The contents of a scanner, and the lines that it has still to give.
-use Rattle.std.specs.Prelude.{ℕ, ◌+◌, ◌==◌, ◌≡◌, ◌<◌, ◌≤◌, nat_lt, Bool, false, List, [], ◌++◌, length, take, get_or, if◌then◌else◌, ◌||◌}
+use Rattle.std.specs.Prelude.{ℕ, ◌+◌, ◌==◌, nat_lt, Bool, List, [], ◌++◌, length, if◌then◌else◌, ◌||◌}
 use Rattle.std.specs.List.{list_any}
 use Rattle.kc_text.specs.declared.line.Line.{Line}
-use Rattle.kc_text.specs.declared.line.Body.TheVariants.{Text}
-use Rattle.kc_text.specs.Lines.{lines_from, without_cr}
+use Rattle.kc_text.specs.Lines.{lines_from}
 
 -- the contents of a scanner
 pub record Scan : Type 0 where
@@ -37,22 +36,3 @@ is_scan_decided r = r.ended || (nat_lt r.room (length r.ready) || list_any (λ b
 -- the bytes that lines can still be made of: the measure of a loop over lines
 abbrev pub scan_budget : Scan → ℕ
 scan_budget r = r.room + length r.piece
-
--- the next line is the first `len` of the bytes that were read
---
--- No line feed is among these bytes. A line feed follows them, within the room, and the line isn't too long.
-pub record IsWhole (len : ℕ) (r : Scan) : Type 0 where
-  pub fresh : r.piece ≡ []
-  pub few : len ≤ r.limit
-  pub room : len < r.room
-  pub within : len < length r.ready
-  pub end : get_or r.ready len 0 ≡ 10
-  pub before : (k : ℕ) → k < len → (get_or r.ready k 0 == 10) ≡ false
-
--- the text of such a line
-abbrev pub whole_text : ℕ → Scan → List ℕ
-whole_text len r = without_cr (take len r.ready)
-
--- the line itself, of this number
-abbrev pub whole_line : ℕ → ℕ → Scan → Line
-whole_line number len r = record { number = number; body = Text (whole_text len r) }

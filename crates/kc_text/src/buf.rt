@@ -1,5 +1,5 @@
 //! A buffer in which a line of text is composed, and from which it is sent.
-ghost use Rattle.std.specs.Prelude.{◌≡◌, ◌++◌, ◌∷◌, [], OnErr, OnOk, IfErr, decimal};
+ghost use Rattle.std.specs.Prelude.{◌≡◌, ◌+◌, ◌<◌, ◌++◌, ◌∷◌, [], OnErr, OnOk, IfErr, decimal};
 
 use crate::{Failed, Sink, put_all};
 use std::alloc::{AllocError, Global};
@@ -43,6 +43,14 @@ impl Model for LineBuf {
     ghost view = { λ b. b.bytes.items };
 }
 
+// Returns the ASCII digit of a number below 10.
+fn digit(value: u32) -> u8
+    requires { value < 10 }
+    ensures { result ≡ 48 + value }
+{
+    b'0' + value as u8
+}
+
 impl LineBuf {
     ghost use Rattle.kc_text.specs.Writing.{Sends, WriteCause, KeptAfter};
 
@@ -71,10 +79,18 @@ impl LineBuf {
     }
 
     /// Appends a number in decimal digits, without leading zeros. If there is no memory, the line stays as it was.
+    #[tactic(auto, using(std::proofs::lemmas::Fmt::decimal_digit, std::proofs::lemmas::Fmt::decimal_step))]
     pub fn put_number(&mut self, value: u32) -> Result<(), AllocError>
         ensures ok { OnOk result (self.new ≡ self.old ++ decimal value) }
         ensures err { OnErr result (self.new ≡ self.old) }
     {
+        // Most levels and counts have one or two digits. They cost no buffer of their own, and a copy of known length.
+        if value < 10 {
+            return self.put(&[digit(value)]);
+        }
+        if value < 100 {
+            return self.put(&[digit(value / 10), digit(value % 10)]);
+        }
         let mut digits = itoa::Buffer::new();
         self.put(digits.format(value).as_bytes())
     }

@@ -17,6 +17,7 @@ mod mem_source;
 mod null_sink;
 mod number;
 mod number_line;
+mod open_line;
 mod reader;
 mod reason;
 mod scanner;

@@ -1,9 +1,9 @@
 //! Lines of two numbers, read in one pass over their bytes.
 ghost use Rattle.std.specs.Prelude.{◌≡◌, ◌≤◌, ◌+◌, ℕ, ◌∷◌, true, Option, length, IfSome, IfNone};
 ghost use Rattle.kc_text.specs.Printing.{is_word};
-ghost use Rattle.kc_text.specs.NumberLines.{with_sign, BeginsWithName};
+ghost use Rattle.kc_text.specs.NumberLines.{BeginsWithName};
 ghost use Rattle.kc_text.specs.private.Numbers.{DigitsTo, StopsAt, HasNoNumber};
-ghost use Rattle.kc_text.specs.private.NumberLines.{sign_of, BeginsAt, FrontStands, ClosesAt, NumbersTo, HaveNoNumbers, IsNumberLine, HaveNoNumberLine, IsNamedLine, HaveNoNamedLine};
+ghost use Rattle.kc_text.specs.private.NumberLines.{sign_of, front_of, BeginsAt, ClosesAt, NumbersTo, HaveNoNumbers, IsNumberLine, HaveNoNumberLine, IsNamedLine, HaveNoNamedLine};
 
 use crate::number::pass_digits;
 use crate::word::parts_words;
@@ -51,13 +51,11 @@ fn sign_of(byte: u8) -> Option<Sign>
     }
 }
 
-// Returns the sign with which a line begins, and where the rest of the line begins. Returns None if a sign isn't
-// followed by a blank, or if there are fewer than two bytes.
-#[tactic(auto, using(crate::proofs::NumberLines::begin_steps))]
+// Returns the sign if there is one, and where the numbers begin. Returns None if a sign isn't followed by a blank, or
+// if there are fewer than two bytes.
+#[tactic(auto, unfolding(crate::specs::private::NumberLines::front_of))]
 fn pass_sign(bytes: &[u8]) -> Option<(Option<Sign>, usize)>
-    ensures begins { IfSome result (λ r. BeginsAt bytes.now (with_sign r.0) r.1) }
-    ensures front { IfSome result (λ r. (sign : Option Sign) (start : ℕ) → FrontStands bytes.now sign start → start ≡ r.1) }
-    ensures none { IfNone result ((sign : Option Sign) (start : ℕ) → FrontStands bytes.now sign start → ⊥) }
+    ensures { result ≡ front_of bytes.now }
 {
     if bytes.len() < 2 {
         return None;
@@ -137,7 +135,6 @@ fn numbers_to(bytes: &[u8], start: usize) -> Option<(u32, u32, usize)>
 // Returns the first line of the bytes if its line feed is among them and it is two numbers with one blank between them.
 // A sign and a blank may stand before the numbers. Returns None if the bytes don't begin with such a line.
 #[inline(always)]
-#[tactic(auto, using(crate::proofs::NumberLines::number_line))]
 pub(crate) fn number_line(bytes: &[u8]) -> Option<NumberLine>
     ensures line { IfSome result (λ line. IsNumberLine bytes.now line) }
     ensures none { IfNone result (HaveNoNumberLine bytes.now) }

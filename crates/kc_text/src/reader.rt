@@ -65,11 +65,11 @@ fn line_of_last(last: LastLine) -> Line
 }
 
 impl LineReader {
-    ghost use Rattle.kc_text.specs.Scanning.{whole_text, whole_line};
+    ghost use Rattle.kc_text.specs.WholeLines.{HasWhole, whole_text, whole_line};
     ghost use Rattle.kc_text.specs.Words.{words};
     ghost use Rattle.kc_text.specs.NumberLines.{SayNumbers, IsNoNumberLine, SayNamed, IsNoNamedLine};
     ghost use Rattle.kc_text.specs.Printing.{is_word};
-    ghost use Rattle.kc_text.specs.Reading.{Reading, lines_of_rest, lines_left, onto, Takes, IsLast, budget, is_decided, HasWhole};
+    ghost use Rattle.kc_text.specs.Reading.{Reading, lines_of_rest, lines_left, onto, Takes, IsLast, budget, is_decided};
 
     /// Makes a reader that stands before the first line. A line of more than `line_limit` bytes is too long. At most
     /// `input_limit` bytes are made into lines. Each limit is at most 1,073,741,824.

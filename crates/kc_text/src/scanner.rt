@@ -1,16 +1,15 @@
 //! Cutting of bytes into lines, in whatever pieces the bytes come.
 ghost use Rattle.std.specs.Prelude.{◌≡◌, ℕ, ◌<◌, ◌≤◌, ◌+◌, ◌^◌, [], ◌∷◌, ◌++◌, List, length, Option, true, false, IfOk, OnOk, OnErr, IfSome, IfNone, IsSome};
 ghost use Rattle.kc_text.specs.Causes.{Rose, ReadCause, OnReadFault};
-ghost use Rattle.kc_text.specs.Lines.{body_of, without_cr, lines};
-ghost use Rattle.kc_text.specs.private.ScannerState.{piece_of};
+ghost use Rattle.kc_text.specs.Lines.{without_cr, lines};
 
 use crate::number_line::{number_line, numbers_after};
+use crate::open_line::OpenLine;
 use crate::window::Window;
-use crate::{Body, Bytes, Failed, Line, LineFault, NamedNumbers, NumberLine, Source};
+use crate::{Body, Failed, Line, LineFault, NamedNumbers, NumberLine, Source};
 use memchr::memchr;
 use std::alloc::{AllocError, Global};
 use std::marker::Model;
-use std::mem;
 
 /// Cuts the bytes of a source into lines, and gives each line once.
 ///
@@ -20,20 +19,12 @@ use std::mem;
 pub struct Scanner {
     // The bytes that were read and not yet taken into a line.
     window: Window,
-    // The bytes taken of the open line, if they are at most `limit` bytes. Otherwise the content has no meaning.
-    part: Vec<u8>,
-    // The number of bytes taken of the open line, kept or not.
-    taken: u32,
-    // The most bytes of a line: at most 2^30.
-    limit: u32,
-    // The number of the open line. Its sum with `room` and `taken` is at most 2^30 + 1.
-    number: u32,
+    // The line after the bytes that were given. Its limit is at most 2^30, and so are all numbers of lines.
+    line: OpenLine,
     // The number of bytes that may still be taken before the input limit.
     room: u32,
     // Whether the source has ended. If it has, the window is empty.
     ended: bool,
-    // The memory of a line that was given back. Its bytes have no meaning.
-    spare: Vec<u8>,
 }
 
 impl Model for Scanner {
@@ -48,53 +39,6 @@ impl Model for Scanner {
     ghost invariant = { IsSound };
 }
 
-// Returns the spare memory, without its bytes.
-#[inline(always)]
-fn take_spare(alloc: Global, spare: &mut Vec<u8>) -> Vec<u8>
-    ensures { result.items ≡ [] }
-{
-    let mut text = mem::replace(spare, Vec::new(alloc));
-    text.clear();
-    text
-}
-
-// Appends the kept part of a line. Most lines lie whole in the window and have no such part, so that case is tested
-// first.
-#[inline(always)]
-fn add_part(text: &mut Vec<u8>, part: &[u8]) -> Result<(), AllocError>
-    ensures { OnOk result (text.new.items ≡ text.old.items ++ part.now) }
-{
-    if part.is_empty() {
-        return Ok(());
-    }
-    text.extend_from_slice(part)?;
-    Ok(())
-}
-
-// Returns the content of a line whose bytes are a part followed by `last`.
-#[inline(always)]
-fn read_body(
-    alloc: Global,
-    spare: &mut Vec<u8>,
-    limit: u32,
-    taken: u32,
-    part: &[u8],
-    last: &[u8],
-) -> Result<Body, AllocError>
-    requires taken { length (piece_of limit taken part.now) ≡ taken }
-    requires small { taken + length last.now < 2 ^ 32 }
-    ensures { IfOk result (λ body. body ≡ body_of limit (piece_of limit taken part.now ++ last.now)) }
-{
-    if taken + last.len() as u32 > limit {
-        return Ok(Body::TooLong);
-    }
-    let mut text = take_spare(alloc, spare);
-    add_part(&mut text, part)?;
-    text.extend_from_slice(last)?;
-    drop_cr(&mut text);
-    Ok(Body::Text(Bytes::from_vec(text)))
-}
-
 // Returns the bytes without a carriage return at the end.
 #[inline(always)]
 fn strip_cr(bytes: &[u8]) -> &[u8]
@@ -107,33 +51,10 @@ fn strip_cr(bytes: &[u8]) -> &[u8]
     }
 }
 
-// Removes a carriage return at the end.
-fn drop_cr(text: &mut Vec<u8>)
-    ensures { text.new.items ≡ without_cr text.old.items }
-{
-    if let Some(b'\r') = text.last() {
-        text.pop();
-    }
-}
-
-// Appends bytes to the part of a line. If the line is then longer than the limit, keeps none of it.
-fn keep(part: &mut Vec<u8>, limit: u32, taken: u32, more: &[u8]) -> Result<(), AllocError>
-    requires taken { length (piece_of limit taken part.old.items) ≡ taken }
-    requires small { taken + length more.now < 2 ^ 32 }
-    ensures kept { OnOk result (taken + length more.now ≤ limit → part.new.items ≡ part.old.items ++ more.now) }
-    ensures same { OnErr result (part.new.items ≡ part.old.items) }
-{
-    if taken + more.len() as u32 > limit {
-        part.clear();
-        return Ok(());
-    }
-    part.extend_from_slice(more)?;
-    Ok(())
-}
-
 impl Scanner {
     ghost use Rattle.kc_text.specs.Following.{onto, Takes, IsLast};
-    ghost use Rattle.kc_text.specs.Scanning.{Scan, scan_lines, scan_budget, is_scan_decided, IsWhole, whole_text, whole_line};
+    ghost use Rattle.kc_text.specs.Scanning.{Scan, scan_lines, scan_budget, is_scan_decided};
+    ghost use Rattle.kc_text.specs.WholeLines.{IsWhole, whole_text, whole_line};
     ghost use Rattle.kc_text.specs.Words.{words};
     ghost use Rattle.kc_text.specs.NumberLines.{SayNumbers, IsNoNumberLine, SayNamed, IsNoNamedLine};
     ghost use Rattle.kc_text.specs.Printing.{is_word};
@@ -151,13 +72,9 @@ impl Scanner {
     {
         Ok(Scanner {
             window: Window::new(alloc)?,
-            part: Vec::new(alloc),
-            taken: 0,
-            limit: line_limit,
-            number: 1,
+            line: OpenLine::new(alloc, line_limit),
             room: input_limit,
             ended: false,
-            spare: Vec::new(alloc),
         })
     }
 
@@ -170,36 +87,21 @@ impl Scanner {
         let ready = self.window.ready();
         let within = ready.len().min(self.room as usize);
         if let Some(at) = memchr(b'\n', &ready[..within]) {
-            let body = read_body(
-                alloc,
-                &mut self.spare,
-                self.limit,
-                self.taken,
-                &self.part,
-                &ready[..at],
-            )?;
-            let line = Line {
-                number: self.number,
-                body,
-            };
+            let line = self.line.close(alloc, &ready[..at])?;
             self.window.pass(at + 1);
-            self.part.clear();
-            self.taken = 0;
-            self.number += 1;
             self.room -= at as u32 + 1;
             return Ok(Some(line));
         }
         if within < ready.len() {
             return Ok(Some(Line {
-                number: self.number,
+                number: self.line.number(),
                 body: Body::Limit,
             }));
         }
         if self.ended {
             return self.finish(alloc);
         }
-        keep(&mut self.part, self.limit, self.taken, ready)?;
-        self.taken += within as u32;
+        self.line.take(ready)?;
         self.room -= within as u32;
         self.window.clear();
         Ok(None)
@@ -212,27 +114,13 @@ impl Scanner {
         ensures some { IfOk result (λ found. IsSome found) }
         ensures err { OnErr result (self.new ≡ self.old) }
     {
-        if self.taken == 0 {
+        if self.line.taken() == 0 {
             return Ok(Some(Line {
-                number: self.number,
+                number: self.line.number(),
                 body: Body::End,
             }));
         }
-        let body = read_body(
-            alloc,
-            &mut self.spare,
-            self.limit,
-            self.taken,
-            &self.part,
-            &[],
-        )?;
-        let line = Line {
-            number: self.number,
-            body,
-        };
-        self.part.clear();
-        self.taken = 0;
-        self.number += 1;
+        let line = self.line.close(alloc, &[])?;
         Ok(Some(line))
     }
 
@@ -243,11 +131,11 @@ impl Scanner {
         ensures { Lends result.now self.now }
     {
         let ready = self.window.ready();
-        if self.taken > 0 {
+        if self.line.taken() > 0 {
             return &ready[..0];
         }
         let room = self.room as usize;
-        let most = ready.len().min(room).min(self.limit as usize + 1);
+        let most = ready.len().min(room).min(self.line.limit() as usize + 1);
         &ready[..most]
     }
 
@@ -295,10 +183,8 @@ impl Scanner {
         requires whole { IsWhole len self.old }
         ensures gives { Gives (whole_line result len self.old) self.old self.new }
     {
-        let number = self.number;
+        let number = self.line.pass();
         self.window.pass(len + 1);
-        self.part.clear();
-        self.number += 1;
         self.room -= len as u32 + 1;
         number
     }
@@ -307,11 +193,11 @@ impl Scanner {
     pub fn reuse(&mut self, text: Vec<u8>)
         ensures { self.new ≡ self.old }
     {
-        self.spare = text;
+        self.line.reuse(text);
     }
 
     // Reads once. No byte is ready, and the source hasn't ended.
-    fn fill<S: Source>(&mut self, src: &mut S) -> Result<(), Failed>
+    fn fill<S: Source>(&mut self, alloc: Global, src: &mut S) -> Result<(), Failed>
         requires ready { self.old.ready ≡ [] }
         requires ended { self.old.ended ≡ false }
         ensures same { scan_lines_left self.new (S.left src.new) ≡ scan_lines_left self.old (S.left src.old) }
@@ -321,7 +207,7 @@ impl Scanner {
         ensures cause { OnErr result (Rose (S.faults src.old) (S.faults src.new)) }
         ensures quiet { OnOk result (S.faults src.new ≡ S.faults src.old) }
     {
-        self.window.fill(src)?;
+        self.window.fill(alloc, src)?;
         if self.window.ready().is_empty() {
             self.ended = true;
         }
@@ -357,7 +243,7 @@ impl Scanner {
                 Ok(None) => {}
                 Err(e) => return Err(LineFault::Memory(e)),
             }
-            if self.fill(src).is_err() {
+            if self.fill(alloc, src).is_err() {
                 return Err(LineFault::ReadFault);
             }
         }

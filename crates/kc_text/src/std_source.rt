@@ -47,8 +47,8 @@ impl<R: Read + Drop> StdSource<R, Untold> {
 }
 
 impl<R: Read + Drop, K: Told> StdSource<R, K> {
-    /// Returns a source that reads from `reader`. If `K` says that the source tells its bytes, the reader has to tell
-    /// its own, and the source tells the same bytes.
+    /// Returns a source that reads from `reader`. If `K` says so (`Told`), contracts see the bytes that the reader has
+    /// left; the reader then has to tell them.
     pub fn telling(reader: R) -> Self
         requires { K.told ≡ true → IsTold (R.remaining reader) }
         ensures { result ≡ record { left = told_of K.told (R.remaining reader); faults = 0 } }

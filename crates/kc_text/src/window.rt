@@ -1,4 +1,4 @@
-//! A buffer of fixed size between a source and the scanner that reads it.
+//! A buffer between a source and the scanner that reads it.
 ghost use Rattle.std.specs.Prelude.{◌≡◌, ℕ, ◌<◌, ◌≤◌, [], List, length, drop, IfOk, OnOk, OnErr};
 ghost use Rattle.std.specs.Io.KnownBytes.{prepend_known, IsAtEnd};
 ghost use Rattle.kc_text.specs.Causes.{Rose};
@@ -7,8 +7,12 @@ use crate::{Failed, Source};
 use std::alloc::{AllocError, Global};
 use std::marker::Model;
 
-// The most bytes of one read: the default capacity of a pipe.
-const SIZE: usize = 65536;
+// The most bytes of a first read: the default capacity of a pipe.
+const FIRST_SIZE: usize = 65_536;
+
+// The most bytes of a later read: those of some hundred thousand lines. A long batch then lies in the buffer for the
+// most part, and is read ahead from there.
+const MAX_SIZE: usize = 4_194_304;
 
 /// The bytes of a source that were read and not yet taken. A contract sees them as a list.
 #[derive(Drop)]
@@ -19,6 +23,8 @@ pub struct Window {
     from: usize,
     // At least `from`, and at most the length of `buf`.
     to: usize,
+    // Whether the last read filled `buf`.
+    is_full: bool,
 }
 
 impl Model for Window {
@@ -38,9 +44,10 @@ impl Window {
         ensures { IfOk result (λ w. w ≡ []) }
     {
         Ok(Window {
-            buf: vec![in alloc; 0u8; SIZE]?,
+            buf: vec![in alloc; 0u8; FIRST_SIZE]?,
             from: 0,
             to: 0,
+            is_full: false,
         })
     }
 
@@ -67,8 +74,23 @@ impl Window {
         self.to = 0;
     }
 
-    /// Reads once. The window is empty before. At the end of the input it stays empty.
-    pub fn fill<S: Source>(&mut self, src: &mut S) -> Result<(), Failed>
+    // Doubles the buffer, if there is memory and it stays within `MAX_SIZE` bytes. The window is empty.
+    fn grow(&mut self, alloc: Global)
+        requires { self.old ≡ [] }
+        ensures { self.new ≡ [] }
+    {
+        let size = self.buf.len();
+        if size <= MAX_SIZE / 2 {
+            if let Ok(buf) = vec![in alloc; 0u8; size * 2] {
+                self.buf = buf;
+                self.clear();
+            }
+        }
+    }
+
+    /// Reads once. The window is empty before. At the end of the input it stays empty. After a read that filled the
+    /// window the next one may bring twice as much, up to 4 MiB.
+    pub fn fill<S: Source>(&mut self, alloc: Global, src: &mut S) -> Result<(), Failed>
         requires { self.old ≡ [] }
         ensures given { OnOk result (S.left src.old ≡ prepend_known self.new (S.left src.new)) }
         ensures end { OnOk result (self.new ≡ [] → IsAtEnd (S.left src.new)) }
@@ -77,9 +99,13 @@ impl Window {
         ensures cause { OnErr result (Rose (S.faults src.old) (S.faults src.new)) }
         ensures quiet { OnOk result (S.faults src.new ≡ S.faults src.old) }
     {
+        if self.is_full {
+            self.grow(alloc);
+        }
         let count = src.read(&mut self.buf)?;
         self.from = 0;
         self.to = count;
+        self.is_full = count == self.buf.len();
         Ok(())
     }
 }

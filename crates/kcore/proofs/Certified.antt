@@ -1,5 +1,6 @@
 -- A text of `final` is certified.
-use Rattle.std.proofs.Common.{ℕ, ◌+◌, ◌≡◌, ◌≤◌, Bool, false, List, ◌++◌, length, ap, ◌∙◌, subst, arith, length-append}
+use Rattle.std.proofs.Common.{ℕ, ◌+◌, ◌≡◌, ◌≤◌, Bool, false, List, ◌++◌, length, ap, ◌∙◌, arith, length-append}
+use Rattle.std.proofs.lemmas.Bool.Decides.{nat_tests}
 use Rattle.kc_text.specs.Lines.{lines}
 use Rattle.kc_text.specs.Printing.{printed}
 use Rattle.kc_text.specs.Kept.{kept}
@@ -17,7 +18,7 @@ use Rattle.kc_graph.specs.declared.limits.TheConstants.{MAX_EDGES}
 use Rattle.kc_session.specs.States.{start, last_state}
 use Rattle.kcore.specs.declared.limits.TheConstants.{LINE_LIMIT, INPUT_LIMIT}
 use Rattle.kcore.specs.CertificateLaw.{CertifiesAfter, FinalIsCertified}
-use Rattle.kcore.specs.CheckText.{verdict_line, is_breach, IsDocumentText}
+use Rattle.kcore.specs.CheckText.{verdict_line, IsDocumentText}
 use Rattle.kcore.specs.FinalText.{certificate_of}
 use Rattle.kcore.proofs.DocumentTexts.{sound_after}
 use Rattle.kcore.proofs.HeaderRanges.{HasRanges, header_keeps}
@@ -30,10 +31,7 @@ sound_certificate s z some small = record { some = some; small = small; graph = 
 
 -- the line of a certificate in which both invariants hold
 certified_line : (s : State) (d : document.Document) (line : List ℕ) (refused : Bool) → IsSound MAX_EDGES s → d ≡ document.Accepted (certificate_of s) → IsDocumentText d line refused → (line ≡ verdict_line (certificate_of s) Certified) × (refused ≡ false)
-certified_line s d line refused z e t =
-    let v = subst (λ x. IsDocumentText x line refused) e t in
-    let same = verdict_is_certified (certificate_of s) v.verdict z.both v.is_verdict in
-    (v.text_is ∙ ap (verdict_line (certificate_of s)) same, v.refusal ∙ ap is_breach same)
+certified_line s d line refused z e t = grind (arith, nat_tests, verdict_is_certified, z.both)
 
 certifies : (text : HeaderText) → HasRanges text → CertifiesAfter (behind_header MAX_ITEMS text)
 certifies (Refused line) h = tt

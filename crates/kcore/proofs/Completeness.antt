@@ -1,6 +1,7 @@
 -- A command has no other answer than the one that its bytes decide, except for a fault that rose and for no memory.
-use Rattle.std.proofs.Common.{ℕ, ◌≡◌, Bool, true, false, List, refl, sym, ap, ◌∙◌, subst, inl, inr}
+use Rattle.std.proofs.Common.{ℕ, ◌≡◌, Bool, true, false, List, refl, sym, ap, ◌∙◌, inl, inr, arith}
 use Rattle.std.specs.Prelude.{Option}
+use Rattle.std.proofs.lemmas.Bool.Decides.{nat_tests}
 use Rattle.kc_text.specs.Causes.{Rose}
 use Rattle.kc_batch.specs.BatchInputs.{BatchInput, WithBatches, HeaderRefused}
 use Rattle.kc_cert.specs.declared.certificate.Certificate.{Certificate}
@@ -18,8 +19,8 @@ use Rattle.kc_audit.proofs.lemmas.Verdicts.{explained_passes}
 use Rattle.kcore.specs.declared.command.Command.{Command}
 use Rattle.kcore.specs.declared.command.Command.TheVariants.{Run, Final, Orient, Exact, Check, Audit, Dense, Gen}
 use Rattle.kcore.specs.declared.limits.TheConstants.{LINE_LIMIT, RUN_LINE_LIMIT, INPUT_LIMIT}
-use Rattle.kcore.specs.declared.status.Status.{Status}
-use Rattle.kcore.specs.declared.status.Status.TheVariants.{Done, Refused, Usage, ReadFault, WriteFault, Memory}
+use Rattle.kc_shell.specs.declared.status.Status.{Status}
+use Rattle.kc_shell.specs.declared.status.Status.TheVariants.{Done, Refused, Usage, ReadFault, WriteFault, Memory}
 use Rattle.kcore.specs.Inputs.{input_said}
 use Rattle.kcore.specs.RunText.{IsRunText}
 use Rattle.kcore.specs.CheckText as check
@@ -30,7 +31,8 @@ use Rattle.kcore.specs.OrientText.{IsOrientText}
 use Rattle.kcore.specs.DenseText.{IsDenseText}
 use Rattle.kcore.specs.LoadText.{IsLoadText}
 use Rattle.kcore.specs.Laws.{HasTextsAlike, HasOneText}
-use Rattle.kcore.specs.Commands.{IsText, Wrote, worked_on, WroteOf, Answers, HasCause, Decide, EndsAsDecided, IsComplete}
+use Rattle.kc_shell.specs.Statuses.{HasCause}
+use Rattle.kcore.specs.Commands.{IsText, Wrote, Answers, Decide, EndsAsDecided, IsComplete}
 use Rattle.kcore.proofs.Texts.{texts_are_alike}
 use Rattle.kcore.proofs.FinalTexts.{input_has_one_final_text}
 use Rattle.kcore.proofs.OrientTexts.{input_has_one_orient_text}
@@ -98,7 +100,4 @@ ends_as_decided command bytes before now r0 r1 w0 w1 Memory w cause r s = record
 
 -- the clauses on an answer and its cause leave no other answer
 pub complete : (asked : Option Command) (left before now : Option (List ℕ)) (r0 r1 w0 w1 : ℕ) (status : Status) → Answers asked left before now status → HasCause r0 r1 w0 w1 status → IsComplete asked left r0 r1 w0 w1 status
-complete asked left before now r0 r1 w0 w1 status answer cause = λ command bytes is told r s.
-    let known : WroteOf command (worked_on command left) before now status = subst (λ (o : Option Command). Answers o left before now status) is answer in
-    let wrote : Wrote command bytes before now status = subst (λ (o : Option (List ℕ)). WroteOf command o before now status) told known in
-    ends_as_decided command bytes before now r0 r1 w0 w1 status wrote cause r s
+complete asked left before now r0 r1 w0 w1 status answer cause = grind (arith, nat_tests, ends_as_decided)

@@ -3,6 +3,7 @@ use Rattle.std.proofs.Common.{ℕ, ◌≡◌, ◌≤◌, inl, inr, List, [], ◌
 use Rattle.std.specs.Prelude.{Option, Result, Err}
 use Rattle.std.specs.List.{flat_map}
 use Rattle.std.proofs.lemmas.Bool.{cases_lt}
+use Rattle.std.proofs.lemmas.Bool.Decides.{nat_tests}
 use Rattle.kc_text.specs.declared.buf.SendFault.{SendFault}
 use Rattle.kc_text.specs.Lines.{lines}
 use Rattle.kc_text.specs.Writing.{Appends}
@@ -33,10 +34,7 @@ some_members g = elim (cases_lt 0 g.vertices) [
 ]
 
 one_members : (g : GraphShape) (a b : List ℕ) → AreMembers g a → AreMembers g b → a ≡ b
-one_members g a b p q = elim (cases_lt 0 g.vertices) [
-  | inl some ↦ dense_part_is_one g a b (p.some (omega arith)) (q.some (omega arith))
-  | inr none ↦ let e : g.vertices ≡ 0 = omega arith in p.none e ∙ sym (q.none e)
-]
+one_members g a b p q = grind (arith, nat_tests, dense_part_is_one, p.some, q.some, p.none, q.none)
 
 pub has_documents : HasDocuments IsDense
 has_documents s sound =
@@ -68,10 +66,7 @@ input_has_one_dense_text = has_one_text IsDense has_documents one_document
 
 -- no set of vertices is more than twice as dense as the members
 half_density : (g : GraphShape) (members : List ℕ) → IsGraph g → AreMembers g members → IsHalfAsDenseAsAny g members
-half_density g members graph are = elim (cases_lt 0 g.vertices) [
-  | inl some ↦ dense_part_is_half_as_dense g members graph (are.some (omega arith))
-  | inr none ↦ λ others there. rw (are.none (omega arith)) (omega arith)
-]
+half_density g members graph are = grind (arith, nat_tests, dense_part_is_half_as_dense, are.some, are.none)
 
 half_behind : (text : HeaderText) → HasHalfDensity (behind_header MAX_ITEMS text)
 half_behind (Refused line) = tt

@@ -1,6 +1,7 @@
 -- The text of `exact`, and the facts that hold of each command.
-use Rattle.std.proofs.Common.{ℕ, ◌≡◌, List, ◌++◌, get_or, refl, sym, ap, ◌∙◌, subst}
+use Rattle.std.proofs.Common.{ℕ, ◌≡◌, List, ◌++◌, refl, sym, ap, ◌∙◌, subst, arith}
 use Rattle.std.specs.Prelude.{Option, Some, None, Result, Err}
+use Rattle.std.proofs.lemmas.Bool.Decides.{nat_tests}
 use Rattle.kc_text.specs.declared.buf.SendFault.{SendFault}
 use Rattle.kc_text.specs.Lines.{lines}
 use Rattle.kc_text.specs.Writing.{Appends}
@@ -10,11 +11,9 @@ use Rattle.kc_graph.specs.declared.limits.TheConstants.{MAX_EDGES, MAX_ITEMS}
 use Rattle.kc_report.specs.Lines.{exact_head_text, end_line}
 use Rattle.kc_report.specs.VertexLines.{vertex_lines}
 use Rattle.kc_batch.specs.Headers.{HeaderText, Accepted, Refused, header_of}
-use Rattle.kc_batch.specs.Tokens.{tokens}
 use Rattle.kc_batch.specs.Batches.{batches}
-use Rattle.kc_batch.specs.BatchInputs.{rules_of, behind_header}
+use Rattle.kc_batch.specs.BatchInputs.{behind_header}
 use Rattle.kc_engine.specs.States.{State, IsSound}
-use Rattle.kc_session.specs.States.{start, last_state}
 use Rattle.kc_session.proofs.lemmas.Runs.{profile_last}
 use Rattle.kcore.specs.declared.limits.TheConstants.{LINE_LIMIT, INPUT_LIMIT}
 use Rattle.kcore.specs.declared.command.Command.{Command}
@@ -56,18 +55,7 @@ input_has_one_exact_text = has_one_text IsExact has_documents one_document
 
 fits_behind : (text : HeaderText) → FitsExactly (behind_header MAX_ITEMS text)
 fits_behind (Refused line) = tt
-fits_behind (Accepted header rest) = λ ts a cs k v h.
-    let z = sound_after header (tokens rest) ts a in
-    let same = profile_last (start header.profile header.n) (batches (rules_of header MAX_ITEMS) (tokens rest)) ts a in
-    let i = holds_in header.profile (last_state (start header.profile header.n) ts) same z.0 in
-    let c = k.each v (rw z.1 h) in
-    record {
-      low = i.low v (get_or cs v 0) c;
-      high = i.high v (get_or cs v 0) c;
-      estimate = i.estimate v (get_or cs v 0) c;
-      near = i.near v (get_or cs v 0) c;
-      nearer = λ two. i.nearer two v (get_or cs v 0) c;
-    }
+fits_behind (Accepted header rest) = grind (arith, nat_tests, sound_after, profile_last, holds_in, header.profile, header.n)
 
 pub holds : (command : Option Command) (left : Option (List ℕ)) → Holds command left
 holds None left = tt

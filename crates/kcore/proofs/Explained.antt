@@ -1,6 +1,7 @@
 -- A text of `run` is explained.
 use Rattle.std.proofs.Common.{ℕ, ◌≡◌, ◌≤◌, ◌<◌, Bool, false, List, [], ◌∷◌, ◌++◌, length, get_or, refl, sym, ap, ◌∙◌, subst, arith, length-append}
 use Rattle.std.specs.Prelude.{All, codes, decimal}
+use Rattle.std.proofs.lemmas.Bool.Decides.{nat_tests}
 use Rattle.kc_graph.specs.declared.limits.TheConstants.{MAX_VERTICES, MAX_EDGES, MAX_ITEMS}
 use Rattle.kc_graph.specs.Shape.{GraphShape}
 use Rattle.kc_text.specs.Lines.{lines}
@@ -39,7 +40,7 @@ use Rattle.kc_audit.proofs.lemmas.Verdicts.{lines_explain, explained_passes}
 use Rattle.kc_audit.proofs.lemmas.Runs.{lines_say_kinds, Prints, prints_line, prints_both, run_kinds_before, whole_run, HaveLevels, batches_low}
 use Rattle.kcore.specs.declared.limits.TheConstants.{LINE_LIMIT, INPUT_LIMIT, RUN_LINE_LIMIT}
 use Rattle.kcore.specs.AuditLaw.{recorded, ExplainsAfter, RunIsExplained}
-use Rattle.kcore.specs.AuditText.{verdict_line, is_unexplained, IsDocumentText}
+use Rattle.kcore.specs.AuditText.{verdict_line, IsDocumentText}
 use Rattle.kcore.specs.RunText.{IsRun}
 use Rattle.kcore.proofs.HeaderRanges.{HasRanges, header_keeps}
 use Rattle.kcore.proofs.LineNumbers.{kept_are_numbered, batches_have_small_lines}
@@ -50,8 +51,8 @@ use Rattle.kcore.proofs.RunVertices.{tail_prints}
 
 head_prints : (n : ℕ) → n ≤ MAX_VERTICES → Prints (head_text n) (λ rest. kind.Head ∷ kind.Vertices n ∷ rest)
 head_prints n most =
-    prints_both magic_line (vertices_line n) (λ rest. kind.Head ∷ rest) (λ rest. kind.Vertices n ∷ rest) (prints_line (codes "kcore-run" ∷ codes "1" ∷ []) kind.Head lines_say_kinds.head)
-    (prints_line (codes "vertices" ∷ decimal n ∷ []) (kind.Vertices n) (lines_say_kinds.vertices n (omega (arith, most))))
+    prints_both magic_line (vertices_line n) (λ rest. kind.Head ∷ rest) (λ rest. kind.Vertices n ∷ rest) (prints_line (codes "kcore-run" ∷ codes "1" ∷ []) kind.Head lines_say_kinds.frame.head)
+    (prints_line (codes "vertices" ∷ decimal n ∷ []) (kind.Vertices n) (lines_say_kinds.frame.vertices n (omega (arith, most))))
 
 -- the tail of a session at the end of its history, if that is a sound state
 end_prints : (p : Profile) (n : ℕ) (g : GraphShape) (x : List ℕ) (s : State) → 1 ≤ n → n ≤ MAX_VERTICES → g ≡ s.graph → x ≡ s.levels → s.profile ≡ p → s.graph.vertices ≡ n → IsSound MAX_EDGES s
@@ -76,10 +77,7 @@ part_fits a b c text e = omega (arith, ap (λ (t : List ℕ). length t) e, lengt
 -- the verdict on a run whose readers are explained is `Explained`
 told : (run : RunText) (d : document.Document) (line : List ℕ) (refused : Bool) → d ≡ document.Accepted run → ((r : ℕ) → r < length run.readers → IsExplained run (replies_of run r)) → IsDocumentText d line refused
     → (line ≡ verdict_line verdict.Explained) × (refused ≡ false)
-told run d line refused e explained t =
-    let v = subst (λ x. IsDocumentText x line refused) e t in
-    let same = explained_passes run v.verdict explained v.is_verdict in
-    (v.text_is ∙ ap verdict_line same, v.refusal ∙ ap is_unexplained same)
+told run d line refused e explained t = grind (arith, nat_tests, explained_passes)
 
 -- if a history explains the replies of each reader, so do its group lines
 all_by_lines : (n : ℕ) (history : List Entry) (replies : List (List Reply)) → All IsQuietUnlessLabelled history → All (AreExplained n history 0) replies

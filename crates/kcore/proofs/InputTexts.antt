@@ -17,7 +17,7 @@ use Rattle.kcore.specs.declared.limits.TheConstants.{LINE_LIMIT, INPUT_LIMIT}
 use Rattle.kcore.specs.Inputs.{input_said}
 use Rattle.kcore.specs.InputTexts.{IsTextOf}
 use Rattle.kcore.specs.private.InputTexts.{HasTexts}
-use Rattle.kcore.specs.private.Opening.{RefusesHeader, BeginsToRefuse}
+use Rattle.kcore.specs.private.Opening.{BeginsToRefuse}
 use Rattle.kcore.specs.private.Writing.{Writes, WritesAfter}
 
 -- each input has a text
@@ -36,10 +36,6 @@ nothing_written IsText has (Some bytes) before now fault e =
 refusal_begun : (IsText : HeaderShape → List Next → List ℕ → Bool → Type 0) (said : Option BatchInput) (before now : Option (List ℕ)) (fault : SessionFault) → BeginsToRefuse said before now → Writes (IsTextOf IsText) said before now (Err fault)
 refusal_begun IsText None before now fault r = tt
 refusal_begun IsText (Some input) before now fault r = record { text = header_refused_line r.line; refused = true; is_text = rw r.is_said (refl, refl); prefix = r.prefix }
-
-pub header_refused : (IsText : HeaderShape → List Next → List ℕ → Bool → Type 0) (said : Option BatchInput) (before now : Option (List ℕ)) → RefusesHeader said before now → Writes (IsTextOf IsText) said before now (Ok true)
-header_refused IsText None before now r = tt
-header_refused IsText (Some input) before now r = record { text = header_refused_line r.line; is_text = rw r.is_said (refl, refl); taken = r.taken }
 
 -- no header was read
 pub not_opened : (IsText : HeaderShape → List Next → List ℕ → Bool → Type 0) → HasTexts IsText → (left before now : Option (List ℕ)) (fault : SessionFault) → (now ≡ before) ⊎ BeginsToRefuse (option_map input_said left) before now

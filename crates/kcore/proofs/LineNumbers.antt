@@ -1,11 +1,11 @@
 -- The numbers of lines within the limit of the input, and of the lines of batches, are small.
 use Rattle.std.proofs.Common.{ℕ, suc, zero, ◌+◌, ◌≤◌, ◌<◌, true, false, List, [], ◌∷◌, ◌++◌, length, arith}
-use Rattle.std.specs.Prelude.{◌^◌, ◌==◌, nat_le, All, if◌then◌else◌}
+use Rattle.std.specs.Prelude.{◌^◌, ◌==◌, nat_le, All, IfSome, if◌then◌else◌}
 use Rattle.std.proofs.lemmas.List.Elements.{All-nil, All-cons, All-head, All-tail}
 use Rattle.kc_graph.specs.declared.items.Item.{Item}
 use Rattle.kc_text.specs.declared.line.Line.{Line}
 use Rattle.kc_text.specs.declared.line.Body.TheVariants as body
-use Rattle.kc_text.specs.Lines.{lines, lines_from, last_of, line_of}
+use Rattle.kc_text.specs.Lines.{lines, lines_from, last_of, numbered_line}
 use Rattle.kc_text.specs.Kept.{is_skipped, kept}
 use Rattle.kc_batch.specs.declared.batch.Next.{Next}
 use Rattle.kc_batch.specs.declared.batch.Next.TheVariants.{Items, Refused, End}
@@ -15,7 +15,8 @@ use Rattle.kc_batch.specs.declared.token.Kind.{Kind}
 use Rattle.kc_batch.specs.declared.token.Kind.TheVariants as kind
 use Rattle.kc_batch.specs.declared.turn.Turn.{Turn}
 use Rattle.kc_batch.specs.declared.turn.Turn.TheVariants.{Add, Close, Pass, Stop}
-use Rattle.kc_batch.specs.Batches.{Place, Between, Within, Passing, batches, batches_from, step_between, step_within, step_passing}
+use Rattle.kc_batch.specs.Batches.{Place, Between, Within, Passing, Over, step_between, step_within, step_passing, step, batches}
+use Rattle.kc_batch.proofs.lemmas.Inputs.{steps_give}
 use Rattle.kc_batch.specs.Tokens.{tokens}
 use Rattle.kc_batch.specs.Turns.{turn_of}
 use Rattle.kcore.specs.declared.limits.TheConstants.{LINE_LIMIT, INPUT_LIMIT}
@@ -27,15 +28,15 @@ from_last : (limit n last : ℕ) (piece : List ℕ) → n + 1 ≤ last → All (
 from_last limit n last [] h = All-cons (IsAtMost last) _ [] (omega (arith, h)) (All-nil (IsAtMost last))
 from_last limit n last (b ∷ bs) h =
     let end : Line = record { number = n + 1; body = body.End } in
-    All-cons (IsAtMost last) (line_of limit n (b ∷ bs)) (end ∷ []) (omega (arith, h)) (All-cons (IsAtMost last) end [] h (All-nil (IsAtMost last)))
+    All-cons (IsAtMost last) (numbered_line limit n (b ∷ bs)) (end ∷ []) (omega (arith, h)) (All-cons (IsAtMost last) end [] h (All-nil (IsAtMost last)))
 
 lines_low : (limit n room last : ℕ) (piece bs : List ℕ) → n + room + 1 ≤ last → All (IsAtMost last) (lines_from limit n room piece bs)
 unfolding lines_from
 lines_low limit n room last piece [] h = from_last limit n last piece (omega (arith, h))
 lines_low limit n zero last piece (b ∷ bs) h = All-cons (IsAtMost last) _ [] (omega (arith, h)) (All-nil (IsAtMost last))
 lines_low limit n (suc room) last piece (b ∷ bs) h =
-    elim (b == 10) as (λ t. All (IsAtMost last) (if t then line_of limit n piece ∷ lines_from limit (n + 1) room [] bs else lines_from limit n room (piece ++ b ∷ []) bs)) [
-      | true ↦ All-cons (IsAtMost last) (line_of limit n piece) (lines_from limit (n + 1) room [] bs) (omega (arith, h)) (lines_low limit (n + 1) room last [] bs (omega (arith, h)))
+    elim (b == 10) as (λ t. All (IsAtMost last) (if t then numbered_line limit n piece ∷ lines_from limit (n + 1) room [] bs else lines_from limit n room (piece ++ b ∷ []) bs)) [
+      | true ↦ All-cons (IsAtMost last) (numbered_line limit n piece) (lines_from limit (n + 1) room [] bs) (omega (arith, h)) (lines_low limit (n + 1) room last [] bs (omega (arith, h)))
       | false ↦ lines_low limit n room last (piece ++ b ∷ []) bs (omega (arith, h))
     ]
 
@@ -71,48 +72,37 @@ HasSmallLine (Items batch) = batch.line < 2 ^ 32
 HasSmallLine (Refused line r) = line < 2 ^ 32
 HasSmallLine End = ⊥
 
-abbrev Are : List Next → Type 0
-Are bs = All HasSmallLine bs
+between_small : (line : ℕ) (k : Kind) → line < 2 ^ 32 → IfSome (step_between line k).1 HasSmallLine
+between_small line kind.BatchStart h = tt
+between_small line kind.BatchEnd h = h
+between_small line (kind.Item item) h = h
+between_small line kind.Other h = h
+between_small line kind.TooLong h = h
+between_small line kind.Limit h = h
+between_small line kind.InputEnd h = tt
 
-between_small : (t : Token) (k : Kind) (within between passing : List Next) → IsSmallToken t → Are within → Are between → Are passing → Are (step_between t k within between passing)
-between_small t kind.BatchStart within between passing s w b p = w
-between_small t kind.BatchEnd within between passing s w b p = All-cons HasSmallLine _ _ s b
-between_small t (kind.Item item) within between passing s w b p = All-cons HasSmallLine _ _ s p
-between_small t kind.Other within between passing s w b p = All-cons HasSmallLine _ _ s p
-between_small t kind.TooLong within between passing s w b p = All-cons HasSmallLine _ _ s p
-between_small t kind.Limit within between passing s w b p = All-cons HasSmallLine _ [] s (All-nil HasSmallLine)
-between_small t kind.InputEnd within between passing s w b p = All-nil HasSmallLine
+within_small : (items : List Item) (line : ℕ) (turn : Turn) → line < 2 ^ 32 → IfSome (step_within items line turn).1 HasSmallLine
+within_small items line (Add item) h = tt
+within_small items line Close h = h
+within_small items line (Pass reason) h = h
+within_small items line (Stop reason) h = h
 
-passing_small : (t : Token) (k : Kind) (between passing : List Next) → IsSmallToken t → Are between → Are passing → Are (step_passing t k between passing)
-passing_small t kind.BatchStart between passing s b p = p
-passing_small t kind.BatchEnd between passing s b p = b
-passing_small t (kind.Item item) between passing s b p = p
-passing_small t kind.Other between passing s b p = p
-passing_small t kind.TooLong between passing s b p = p
-passing_small t kind.Limit between passing s b p = All-cons HasSmallLine _ [] s (All-nil HasSmallLine)
-passing_small t kind.InputEnd between passing s b p = All-nil HasSmallLine
+passing_small : (line : ℕ) (k : Kind) → line < 2 ^ 32 → IfSome (step_passing line k).1 HasSmallLine
+passing_small line kind.BatchStart h = tt
+passing_small line kind.BatchEnd h = tt
+passing_small line (kind.Item item) h = tt
+passing_small line kind.Other h = tt
+passing_small line kind.TooLong h = tt
+passing_small line kind.Limit h = h
+passing_small line kind.InputEnd h = tt
 
-within_small : (items : List Item) (t : Token) (turn : Turn) (more : Item → List Next) (between passing : List Next) → IsSmallToken t → ((item : Item) → Are (more item)) → Are between → Are passing → Are (step_within items t turn more between passing)
-within_small items t (Add item) more between passing s m b p = m item
-within_small items t Close more between passing s m b p = All-cons HasSmallLine _ _ s b
-within_small items t (Pass reason) more between passing s m b p = All-cons HasSmallLine _ _ s p
-within_small items t (Stop reason) more between passing s m b p = All-cons HasSmallLine _ [] s (All-nil HasSmallLine)
-
-small_from : (rules : Rules) (place : Place) (ts : List Token) → All IsSmallToken ts → Are (batches_from rules place ts)
-unfolding batches_from
-small_from rules place [] h = All-nil HasSmallLine
-small_from rules Between (t ∷ rest) h =
-    let later = All-tail IsSmallToken t rest h in
-    between_small t t.kind (batches_from rules (Within []) rest) (batches_from rules Between rest) (batches_from rules Passing rest) (All-head IsSmallToken t rest h)
-    (small_from rules (Within []) rest later) (small_from rules Between rest later) (small_from rules Passing rest later)
-small_from rules (Within items) (t ∷ rest) h =
-    let later = All-tail IsSmallToken t rest h in
-    within_small items t (turn_of rules (nat_le rules.item_limit (length items)) t.kind) (λ item. batches_from rules (Within (items ++ item ∷ [])) rest) (batches_from rules Between rest) (batches_from rules Passing rest) (All-head IsSmallToken t rest h)
-    (λ item. small_from rules (Within (items ++ item ∷ [])) rest later) (small_from rules Between rest later) (small_from rules Passing rest later)
-small_from rules Passing (t ∷ rest) h =
-    let later = All-tail IsSmallToken t rest h in
-    passing_small t t.kind (batches_from rules Between rest) (batches_from rules Passing rest) (All-head IsSmallToken t rest h) (small_from rules Between rest later) (small_from rules Passing rest later)
+-- a batch has the number of the line that closes or refuses it
+step_small : (rules : Rules) (place : Place) (t : Token) → IsSmallToken t → IfSome (step rules place t).1 HasSmallLine
+step_small rules Between t h = between_small t.number t.kind h
+step_small rules (Within items) t h = within_small items t.number (turn_of rules (nat_le rules.item_limit (length items)) t.kind) h
+step_small rules Passing t h = passing_small t.number t.kind h
+step_small rules Over t h = tt
 
 -- batches of numbered lines
 pub batches_have_small_lines : (rules : Rules) (ls : List Line) → All IsNumbered ls → All HasSmallLine (batches rules (tokens ls))
-batches_have_small_lines rules ls h = small_from rules Between (tokens ls) (small_tokens ls h)
+batches_have_small_lines rules ls h = steps_give rules IsSmallToken (λ _. Unit {0}) HasSmallLine (λ place t s p. (tt, step_small rules place t s)) Between (tokens ls) (small_tokens ls h) tt

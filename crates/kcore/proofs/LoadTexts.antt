@@ -20,7 +20,6 @@ use Rattle.kc_batch.proofs.lemmas.Inputs.{batches_keep_ranges}
 use Rattle.kc_session.specs.declared.ended.Ended.{Ended}
 use Rattle.kc_session.specs.declared.fault.SessionFault.{SessionFault}
 use Rattle.kc_session.specs.States.{Step, start, last_state}
-use Rattle.kc_session.specs.Agents.{questions}
 use Rattle.kc_session.specs.Asking.{Fit}
 use Rattle.kc_session.specs.Counts.{capped, refused_in, all_groups, all_moves}
 use Rattle.kc_session.specs.Ended.{IsEnded, replies_in, greatest}

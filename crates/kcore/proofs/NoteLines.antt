@@ -27,12 +27,6 @@ use Rattle.kc_session.specs.RunText.{step_text, batch_lines}
 use Rattle.kc_session.specs.States.{Step, refusal_of, reason_of}
 use Rattle.kcore.specs.declared.limits.TheConstants.{LINE_LIMIT}
 
--- digits of any number
-pub record AreDigits (k : ℕ) (ds : List ℕ) : Type 0 where
-  pub plain : list_all (λ b. nat_lt 32 b) ds ≡ true
-  pub some : 0 < length ds
-  pub short : length ds ≤ k
-
 glyph : (n : ℕ) → nat_lt 32 (digit_glyph false (n % 10)) ≡ true
 glyph n =
     let low : nat_lt (n % 10) 10 ≡ true = grind (arith, nat_tests) in
@@ -49,19 +43,10 @@ digits_on (suc k) n acc h =
 
 digits_short : (k n : ℕ) (acc : List ℕ) → (length acc ≤ length (digits_onto k 10 false n acc)) × (length (digits_onto k 10 false n acc) ≤ k + length acc)
 digits_short zero n acc = (omega arith, omega arith)
-digits_short (suc k) n acc =
-    elim (n / 10 == 0) as (λ b. (length acc ≤ length (if b then digit_glyph false (n % 10) ∷ acc else digits_onto k 10 false (n / 10) (digit_glyph false (n % 10) ∷ acc)))
-    × (length (if b then digit_glyph false (n % 10) ∷ acc else digits_onto k 10 false (n / 10) (digit_glyph false (n % 10) ∷ acc)) ≤ suc k + length acc)) [
-      | true ↦ (omega arith, omega arith)
-      | false ↦ let later = digits_short k (n / 10) (digit_glyph false (n % 10) ∷ acc) in (omega (arith, later.0), omega (arith, later.1))
-    ]
+digits_short (suc k) n acc = grind (arith, nat_tests, digits_short k (n / 10) (digit_glyph false (n % 10) ∷ acc))
 
 digits_some : (k n : ℕ) → 0 < length (digits_onto (suc k) 10 false n [])
-digits_some k n =
-    elim (n / 10 == 0) as (λ b. 0 < length (if b then digit_glyph false (n % 10) ∷ [] else digits_onto k 10 false (n / 10) (digit_glyph false (n % 10) ∷ []))) [
-      | true ↦ omega arith
-      | false ↦ let later = digits_short k (n / 10) (digit_glyph false (n % 10) ∷ []) in omega (arith, later.0)
-    ]
+digits_some k n = grind (arith, nat_tests, digits_short)
 
 number_word : (n : ℕ) → is_word (decimal n) ≡ true
 unfolding digits

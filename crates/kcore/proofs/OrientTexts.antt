@@ -1,6 +1,7 @@
 -- The text of `orient`, and the facts that hold of it.
-use Rattle.std.proofs.Common.{ℕ, ◌≡◌, ◌≤◌, List, ◌++◌, length, get_or, refl, sym, ap, ◌∙◌, subst, arith}
+use Rattle.std.proofs.Common.{ℕ, ◌≡◌, ◌≤◌, List, ◌++◌, length, get_or, refl, ◌∙◌, subst, arith}
 use Rattle.std.specs.Prelude.{Option, Result, Err}
+use Rattle.std.proofs.lemmas.Bool.Decides.{nat_tests}
 use Rattle.kc_text.specs.declared.buf.SendFault.{SendFault}
 use Rattle.kc_text.specs.Lines.{lines}
 use Rattle.kc_text.specs.Writing.{Appends}
@@ -51,10 +52,7 @@ pub nothing_of_it : {T : Type 0} → (s : State) (before : Option (List ℕ)) (f
 nothing_of_it s before fault sound = let d = has_documents s sound in record { document = d.0; is_document = d.1; appends = prefix_none before before d.0 refl }
 
 one_document : (s : State) (a b : List ℕ) → IsOrientedText s a → IsOrientedText s b → a ≡ b
-one_document s a b p q =
-    p.text_is
-    ∙ ap (λ (cs : List ℕ). oriented_text (orientation s.graph s.levels) cs s.graph.vertices) (colourings_are_one s.graph s.levels p.colours q.colours p.is_colouring q.is_colouring)
-    ∙ sym q.text_is
+one_document s a b p q = grind (arith, nat_tests, colourings_are_one, p.text_is, p.colours, q.colours, p.is_colouring, q.is_colouring, q.text_is)
 
 pub input_has_one_orient_text : HasOneText IsOrientText
 input_has_one_orient_text = has_one_text IsOrientedText has_documents one_document

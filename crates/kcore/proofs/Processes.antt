@@ -6,8 +6,8 @@ use Rattle.std.proofs.lemmas.Option.{same_Some}
 use Rattle.std.specs.Io.KnownBytes.{append_known, Keeps}
 use Rattle.kc_text.specs.Telling.{IsTold, told_of}
 use Rattle.kcore.specs.declared.command.Command.{Command}
-use Rattle.kcore.specs.declared.status.Status.{Status}
-use Rattle.kcore.specs.declared.status.Status.TheVariants.{Done, Refused, Usage, ReadFault, WriteFault, Memory}
+use Rattle.kc_shell.specs.declared.status.Status.{Status}
+use Rattle.kc_shell.specs.declared.status.Status.TheVariants.{Done, Refused, Usage, ReadFault, WriteFault, Memory}
 use Rattle.kcore.specs.Texts.{WritesWhole, WritesPrefix}
 use Rattle.kcore.specs.Commands.{IsText, Wrote, WroteOf, worked_on, Answers}
 use Rattle.kcore.specs.Process.{HoldsWhole, HoldsPrefix, Held, HeldOf, ProcessAnswers}

@@ -174,7 +174,7 @@ IsFew plan = length plan.quiet.edges < 4294967296
 
 phase_prints : (p : ℕ) (plan : PhasePlan) → plan.quiet.phase ≡ p → IsSmall p → IsFew plan → Prints (phase_line plan) (λ rest. kind.Phase p plan.quiet.add ∷ rest)
 phase_prints p plan number small few =
-    rw (number, same_word plan.quiet.add) (prints_line _ (kind.Phase p plan.quiet.add) (lines_say_kinds.phase p (length plan.quiet.edges) plan.quiet.add small (omega (arith, few))))
+    rw (number, same_word plan.quiet.add) (prints_line _ (kind.Phase p plan.quiet.add) (lines_say_kinds.batches.phase p (length plan.quiet.edges) plan.quiet.add small (omega (arith, few))))
 
 phases_print : (n p : ℕ) (plans : List PhasePlan) → n ≤ MAX_VERTICES → p + length plans ≤ MAX_PHASE → AreNumbered n p plans → All IsFew plans → Prints (flat_map phase_text plans) (λ rest. phase_kinds p (phase_texts plans) (λ q. rest))
 phases_print n p [] most last numbered few = prints_nothing
@@ -193,12 +193,12 @@ accepted_prints number s batch header k same i small =
     let c = cleaned s.graph batch.items in
     let inside : All (IsInside s.graph.vertices) batch.items = rw same i.inside in
     let all = each_item_counts_once s.graph batch.items k.graph inside in
-    prints_line _ (kind.Accepted number) (lines_say_kinds.accepted number c.loops c.repeats c.idle (length c.removed) (length c.added) small (omega (arith, all, i.few)) (omega (arith, all, i.few)) (omega (arith, all, i.few))
+    prints_line _ (kind.Accepted number) (lines_say_kinds.batches.accepted number c.loops c.repeats c.idle (length c.removed) (length c.added) small (omega (arith, all, i.few)) (omega (arith, all, i.few)) (omega (arith, all, i.few))
     (few_removed s.graph batch.items k.graph k.few_edges inside) (few_added s.graph batch.items k.graph inside i.few))
 
 -- the line of a refused batch
 refused_prints : (number line : ℕ) (r : Reason) → IsSmall number → IsSmall line → IsRefusedReason r → Prints (refused_line number line r) (λ rest. kind.Refused number ∷ rest)
-refused_prints number line r x y h = prints_line _ (kind.Refused number) (lines_say_kinds.refused number line r x y h)
+refused_prints number line r x y h = prints_line _ (kind.Refused number) (lines_say_kinds.batches.refused number line r x y h)
 
 batch_reason : (r : Reason) → IsBatchReason r → IsRefusedReason r
 batch_reason reason.Header h = h

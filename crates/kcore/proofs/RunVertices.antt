@@ -46,7 +46,7 @@ vertex_prints p g x v some most graph capped inside =
     let low_small = low-small p g.vertices j most (group_of-within p g.vertices level some top) in
     let level_small = top_level-small p g.vertices most in
     prints_line _ (kind.Vertex v)
-    (lines_say_kinds.vertex v level (est p j) (lo p j) (high p j) (at_least g x v level) (at_least g x v (level - 1)) (omega (arith, inside, most)) (omega (arith, top, level_small))
+    (lines_say_kinds.levels.vertex v level (est p j) (lo p j) (high p j) (at_least g x v level) (at_least g x v (level - 1)) (omega (arith, inside, most)) (omega (arith, top, level_small))
     (omega (arith, lo_low p j, low_small)) (omega (arith, lo_low p j, low_small)) (omega (arith, high_low p j, low_small)) (few_at_least g x v level graph inside most) (few_at_least g x v (level - 1) graph inside most))
 
 kinds_last : (v k : ℕ) (rest : List Kind) → vertex_kinds v k (kind.Vertex (v + k) ∷ rest) ≡ vertex_kinds v (suc k) rest
@@ -69,4 +69,4 @@ vertices_print p g x (suc k) some most graph capped within =
 pub tail_prints : (p : Profile) (g : GraphShape) (x : List ℕ) → 1 ≤ g.vertices → g.vertices ≤ MAX_VERTICES → IsGraph g → IsCapped p g.vertices x → Prints (tail_text p g x) (λ rest. vertex_kinds 0 g.vertices (kind.Close ∷ rest))
 tail_prints p g x some most graph capped =
     prints_both (vertex_lines (vertex_text p g x) g.vertices) end_line (λ rest. vertex_kinds 0 g.vertices rest) (λ rest. kind.Close ∷ rest)
-    (vertices_print p g x g.vertices some most graph capped (omega arith)) (prints_line (codes "end" ∷ []) kind.Close lines_say_kinds.end)
+    (vertices_print p g x g.vertices some most graph capped (omega arith)) (prints_line (codes "end" ∷ []) kind.Close lines_say_kinds.frame.end)

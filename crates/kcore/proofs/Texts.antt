@@ -1,8 +1,9 @@
 -- The text of a run: one for all replies that fit, and equal except for the lines of the readers.
-use Rattle.std.proofs.Common.{ℕ, ◌≡◌, Bool, List, [], ◌∷◌, ◌++◌, length, nat_lt, refl, sym, ap, ◌∙◌, subst, append_assoc}
+use Rattle.std.proofs.Common.{ℕ, ◌≡◌, Bool, List, [], ◌∷◌, ◌++◌, length, nat_lt, refl, sym, ap, ◌∙◌, subst, append_assoc, arith}
 use Rattle.std.specs.Prelude.{Option, Some, None, Ok, Err, All}
 use Rattle.std.specs.Option.{option_map}
 use Rattle.std.proofs.lemmas.List.Elements.{All-nil, All-cons}
+use Rattle.std.proofs.lemmas.Bool.Decides.{nat_tests}
 use Rattle.kc_text.specs.Lines.{lines}
 use Rattle.kc_text.specs.Kept.{kept}
 use Rattle.kc_graph.specs.declared.limits.TheConstants.{MAX_ITEMS}
@@ -68,15 +69,7 @@ run_of header ls s = is_run header ls s.steps s.replies s.are_steps s.fit (subst
 pub run_written : (header : HeaderShape) (toks : Option (List Token)) (before now : Option (List ℕ)) (ended : Ended) (refused : Bool) → refused ≡ nat_lt 0 ended.refused
     → WritesSession session_text header (option_map (batches (rules_of header MAX_ITEMS)) toks) before now (Ok ended) → WritesAfter (IsRunOf header) (option_map (batches (rules_of header MAX_ITEMS)) toks) before now (Ok refused)
 run_written header None before now ended refused e w = tt
-run_written header (Some ls) before now ended refused e w =
-    let s = w.session in
-    let text = session_text header (said_batches header ls) s.steps s.replies in
-    let same : nat_lt 0 (refused_in (start header.profile header.n) (said_batches header ls) s.steps) ≡ refused = ap (λ (m : ℕ). nat_lt 0 m) (sym w.ends.refused) ∙ sym e in
-    record {
-      text = text;
-      is_text = (s.replies, subst (λ (b : Bool). IsRun header (said_batches header ls) s.replies text b) same (run_of header ls s));
-      taken = w.taken;
-    }
+run_written header (Some ls) before now ended refused e w = grind (arith, nat_tests, run_of, w.session, w.ends.refused, w.taken)
 
 -- a prefix of a session was written
 pub run_stopped : (header : HeaderShape) (toks : Option (List Token)) (before now : Option (List ℕ)) (fault other : SessionFault)

@@ -3,8 +3,10 @@ use Rattle.std.proofs.Common.{ℕ, ◌≡◌, ◌≢◌, true, false, List, [], 
 use Rattle.std.specs.Prelude.{Some, None, slice_get, codes}
 use Rattle.std.specs.Str.{bytes_eq}
 use Rattle.std.proofs.lemmas.Option.{same_Some}
+use Rattle.std.proofs.lemmas.Bool.Decides.{nat_tests}
 use Rattle.kc_text.specs.Numbers.{number_of}
-use Rattle.kcore.specs.Commands.{few_workers, gen_with, command_of}
+use Rattle.kc_shell.specs.Workers.{few_workers}
+use Rattle.kcore.specs.Commands.{gen_with, command_of}
 
 pub two_words : (ws : List (List ℕ)) (a b : List ℕ) → length ws ≡ 2 → slice_get ws 0 ≡ Some a → slice_get ws 1 ≡ Some b → ws ≡ a ∷ b ∷ []
 two_words [] a b n e f = absurd (omega arith)
@@ -25,14 +27,7 @@ six_words (x0 ∷ x1 ∷ []) a b c d e f n k0 k1 k2 k3 k4 k5 = absurd (omega ari
 six_words (x0 ∷ x1 ∷ x2 ∷ []) a b c d e f n k0 k1 k2 k3 k4 k5 = absurd (omega arith)
 six_words (x0 ∷ x1 ∷ x2 ∷ x3 ∷ []) a b c d e f n k0 k1 k2 k3 k4 k5 = absurd (omega arith)
 six_words (x0 ∷ x1 ∷ x2 ∷ x3 ∷ x4 ∷ []) a b c d e f n k0 k1 k2 k3 k4 k5 = absurd (omega arith)
-six_words (x0 ∷ x1 ∷ x2 ∷ x3 ∷ x4 ∷ x5 ∷ []) a b c d e f n k0 k1 k2 k3 k4 k5 =
-    let p0 : x0 ≡ a = same_Some _ _ k0 in
-    let p1 : x1 ≡ b = same_Some _ _ k1 in
-    let p2 : x2 ≡ c = same_Some _ _ k2 in
-    let p3 : x3 ≡ d = same_Some _ _ k3 in
-    let p4 : x4 ≡ e = same_Some _ _ k4 in
-    let p5 : x5 ≡ f = same_Some _ _ k5 in
-    rw (p0, p1, p2, p3, p4, p5) refl
+six_words (x0 ∷ x1 ∷ x2 ∷ x3 ∷ x4 ∷ x5 ∷ []) a b c d e f n k0 k1 k2 k3 k4 k5 = grind (arith, nat_tests, same_Some)
 six_words (x0 ∷ x1 ∷ x2 ∷ x3 ∷ x4 ∷ x5 ∷ x6 ∷ more) a b c d e f n k0 k1 k2 k3 k4 k5 = absurd (omega arith)
 
 named_load : (a b c d e f : List ℕ) → bytes_eq a (codes "gen") ≡ true → command_of (a ∷ b ∷ c ∷ d ∷ e ∷ f ∷ []) ≡ gen_with (number_of b) (number_of c) (number_of d) (number_of e) (few_workers (number_of f))

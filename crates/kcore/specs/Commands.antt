@@ -4,11 +4,12 @@ use Rattle.std.specs.Str.{bytes_eq}
 use Rattle.kc_text.specs.Causes.{Rose}
 use Rattle.kc_text.specs.Numbers.{number_of}
 use Rattle.kc_graph.specs.declared.limits.TheConstants.{MAX_VERTICES, MAX_ITEMS}
+use Rattle.kc_shell.specs.Workers.{few_workers}
 use Rattle.kc_session.specs.Generated.{generated}
 use Rattle.kcore.specs.declared.command.Command.{Command}
 use Rattle.kcore.specs.declared.command.Command.TheVariants.{Run, Final, Orient, Exact, Check, Audit, Dense, Gen}
-use Rattle.kcore.specs.declared.status.Status.{Status}
-use Rattle.kcore.specs.declared.status.Status.TheVariants.{Done, Refused, Usage, ReadFault, WriteFault, Memory}
+use Rattle.kc_shell.specs.declared.status.Status.{Status}
+use Rattle.kc_shell.specs.declared.status.Status.TheVariants.{Done, Refused, Usage, ReadFault, WriteFault, Memory}
 use Rattle.kcore.specs.Inputs.{input_said}
 use Rattle.kcore.specs.RunText.{IsRunText}
 use Rattle.kcore.specs.CheckText.{IsCheckText}
@@ -20,11 +21,6 @@ use Rattle.kcore.specs.DenseText.{IsDenseText}
 use Rattle.kcore.specs.LoadText.{IsLoadText}
 use Rattle.kcore.specs.Texts.{WritesWhole, WritesPrefix}
 use Rattle.kcore.specs.Laws.{HoldsThroughout, FitsExactly, HasHalfDensity}
-
--- a number of workers, which is 1 to 64
-abbrev pub few_workers : Option ℕ → Option ℕ
-few_workers None = None
-few_workers (Some workers) = if nat_le 1 workers && nat_le workers 64 then Some workers else None
 
 -- the command of this name with this number of workers
 abbrev pub with_workers : List ℕ → Option ℕ → Option Command
@@ -130,14 +126,6 @@ Holds (Some Exact) (Some bytes) = HoldsThroughout (input_said bytes) × FitsExac
 Holds (Some Dense) (Some bytes) = HasHalfDensity (input_said bytes)
 Holds (Some (Gen seed n batches items workers)) (Some bytes) = Unit {0}
 
--- a fault has a cause, for the counts of faults r of the source and w of the sink
---
--- A fault is answered only if the count of its object rose, and every other count is as it was.
-abbrev pub HasCause : ℕ → ℕ → ℕ → ℕ → Status → Type 0
-HasCause r0 r1 w0 w1 ReadFault = Rose r0 r1 × (w1 ≡ w0)
-HasCause r0 r1 w0 w1 WriteFault = (r1 ≡ r0) × Rose w0 w1
-HasCause r0 r1 w0 w1 _ = (r1 ≡ r0) × (w1 ≡ w0)
-
 -- the bytes decide whether the command refuses them, or a part of them
 --
 -- They have a text, and each of their texts says the same about it.
@@ -163,12 +151,3 @@ pub record EndsAsDecided (command : Command) (bytes : List ℕ) (status : Status
 abbrev pub IsComplete : Option Command → Option (List ℕ) → ℕ → ℕ → ℕ → ℕ → Status → Type 0
 IsComplete asked left r0 r1 w0 w1 status =
     (command : Command) (bytes : List ℕ) → asked ≡ Some command → worked_on command left ≡ Some bytes → ¬ (Rose r0 r1) → ¬ (Rose w0 w1) → EndsAsDecided command bytes status
-
--- the exit number of the program
-abbrev pub exit_number : Status → ℕ
-exit_number Done = 0
-exit_number Refused = 1
-exit_number Usage = 2
-exit_number ReadFault = 3
-exit_number WriteFault = 4
-exit_number Memory = 5

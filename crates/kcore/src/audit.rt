@@ -49,8 +49,8 @@ pub fn audit_input<S: Source, K: Sink>(
     ensures text { WritesAudit (S.left src.old) (K.taken sink.old) (K.taken sink.new) result }
     ensures cause { FaultCause (S.faults src.old) (S.faults src.new) (K.faults sink.old) (K.faults sink.new) result }
 {
-    let mut reader = LineReader::new(alloc, RUN_LINE_LIMIT, INPUT_LIMIT)?;
-    match read_run(alloc, &mut reader, src) {
+    let mut lines = LineReader::new(alloc, RUN_LINE_LIMIT, INPUT_LIMIT)?;
+    match read_run(alloc, &mut lines, src) {
         Ok(run) => {
             let verdict = audit(alloc, &run)?;
             write_verdict(alloc, sink, verdict)?;

@@ -52,8 +52,8 @@ pub fn check_input<S: Source, K: Sink>(
     ensures text { WritesCheck (S.left src.old) (K.taken sink.old) (K.taken sink.new) result }
     ensures cause { FaultCause (S.faults src.old) (S.faults src.new) (K.faults sink.old) (K.faults sink.new) result }
 {
-    let mut reader = LineReader::new(alloc, LINE_LIMIT, INPUT_LIMIT)?;
-    match read_certificate(alloc, &mut reader, src) {
+    let mut lines = LineReader::new(alloc, LINE_LIMIT, INPUT_LIMIT)?;
+    match read_certificate(alloc, &mut lines, src) {
         Ok(cert) => {
             let th = Thresholds::new(alloc, cert.profile, cert.graph.vertices())?;
             let verdict = verify(&cert, &th);

@@ -1,10 +1,12 @@
 //! The commands of `kcore`, and the command of a command line.
-ghost use Rattle.std.specs.Prelude.{◌≡◌, ◌≤◌, ◌∷◌, [], length, Some, IfSome};
+ghost use Rattle.std.specs.Prelude.{◌≡◌, ◌≤◌, ◌∷◌, [], length, Some};
 ghost use Rattle.kc_text.specs.Numbers.{number_of};
-ghost use Rattle.kcore.specs.Commands.{few_workers, fits_load, gen_with, command_of};
+ghost use Rattle.kc_shell.specs.Workers.{few_workers};
+ghost use Rattle.kcore.specs.Commands.{fits_load, gen_with, command_of};
 ghost use Rattle.kcore.specs.private.Commands.{FitsWorkers};
 
 use kc_graph::{MAX_ITEMS, MAX_VERTICES};
+use kc_shell::workers_in;
 use kc_text::{Words, is_named, read_number};
 
 /// The command of a command line.
@@ -47,25 +49,13 @@ pub enum Command {
     },
 }
 
-// Returns a number of workers, 1 to 64.
-fn few_workers(word: &[u8]) -> Option<u32>
-    ensures number { result ≡ few_workers (number_of word.now) }
-    ensures few { IfSome result (λ workers. (1 ≤ workers) × (workers ≤ 64)) }
-{
-    let workers = read_number(word)?;
-    if workers < 1 || workers > 64 {
-        return None;
-    }
-    Some(workers)
-}
-
 // Returns the command of two words.
 #[tactic(auto, unfolding(crate::specs::Commands::command_of))]
 fn of_two(name: &[u8], workers: &[u8]) -> Option<Command>
     ensures command { result ≡ command_of (name.now ∷ workers.now ∷ []) }
     ensures few { FitsWorkers result }
 {
-    let workers = few_workers(workers)?;
+    let workers = workers_in(workers)?;
     if is_named(name, b"run") {
         Some(Command::Run { workers })
     } else if is_named(name, b"final") {
@@ -117,7 +107,7 @@ fn gen_with(seed: &[u8], n: &[u8], batches: &[u8], items: &[u8], workers: &[u8])
     let n = read_number(n)?;
     let batches = read_number(batches)?;
     let items = read_number(items)?;
-    let workers = few_workers(workers)?;
+    let workers = workers_in(workers)?;
     if !fits_load(n, batches, items) {
         return None;
     }

@@ -1,9 +1,8 @@
 //! Commands that apply the batches of an input, and then write a document of the graph and the levels after them.
-ghost use Rattle.std.specs.Prelude.{◌≡◌, false, List, ℕ, Option};
+ghost use Rattle.std.specs.Prelude.{List, ℕ, Option};
 ghost use Rattle.std.specs.Option.{option_map};
 ghost use Rattle.kc_text.specs.Writing.{WriteCause};
-ghost use Rattle.kc_graph.specs.declared.limits.TheConstants.{MAX_EDGES};
-ghost use Rattle.kc_engine.specs.States.{State, IsSound};
+ghost use Rattle.kc_engine.specs.States.{State};
 ghost use Rattle.kc_session.specs.Faults.{FaultCause};
 ghost use Rattle.kcore.specs.Inputs.{input_said};
 ghost use Rattle.kcore.specs.InputTexts.{IsTextOf};
@@ -27,25 +26,37 @@ use kc_session::{SessionFault, settle};
 use kc_text::{SendFault, Sink, Source};
 pub use orient::Orient;
 use std::alloc::Global;
+use std::marker::Model;
 use std::thread::Threads;
+
+/// The state after the batches of an input. Contracts see it as a `State`, which is sound.
+#[derive(Drop)]
+pub struct LastState<'a> {
+    // The engine after the batches, which hasn't halted.
+    engine: &'a Engine,
+    // The profile of the thresholds of its levels.
+    profile: Profile,
+}
+
+impl<'a> Model for LastState<'a> {
+    ghost use Rattle.kc_engine.specs.States.{State};
+    ghost use Rattle.kcore.specs.private.Documents.{IsLast};
+
+    ghost Value = { State };
+
+    ghost view = { λ s. s.engine.now.state };
+
+    ghost invariant = { λ s. IsLast s.profile s.engine.now };
+}
 
 /// A document of a graph and its levels.
 pub trait Document {
     // The documents of a state.
     ghost is_document: { State → List ℕ → Type 0 };
 
-    /// Writes the document of the state of an engine whose levels have the thresholds of this profile. The engine
-    /// hasn't halted.
-    fn write<K: Sink>(
-        alloc: Global,
-        profile: Profile,
-        engine: &Engine,
-        sink: &mut K,
-    ) -> Result<(), SendFault>
-        requires running { engine.now.halted ≡ false }
-        requires profile { engine.now.state.profile ≡ profile }
-        requires sound { IsSound MAX_EDGES engine.now.state }
-        ensures text { WritesDocument is_document engine.now.state (K.taken sink.old) (K.taken sink.new) result }
+    /// Writes the document of a state.
+    fn write<K: Sink>(alloc: Global, last: &LastState<'_>, sink: &mut K) -> Result<(), SendFault>
+        ensures text { WritesDocument is_document last.now (K.taken sink.old) (K.taken sink.new) result }
         ensures cause { WriteCause (K.faults sink.old) (K.faults sink.new) result };
 
     /// A law; the function does nothing: each state has a document.
@@ -65,7 +76,7 @@ pub fn settle_input<D: Document, R: Threads + Sync, S: Source, K: Sink, G: Gate 
 {
     D::has_documents();
     let alloc = rounds.alloc();
-    let Some((header, reader)) = open_input(alloc, src, sink)? else {
+    let Some((header, lines)) = open_input(alloc, src, sink)? else {
         return Ok(true);
     };
     let profile = header.profile;
@@ -75,10 +86,14 @@ pub fn settle_input<D: Document, R: Threads + Sync, S: Source, K: Sink, G: Gate 
         rounds.gate(),
         rounds.workers(),
         header,
-        reader,
+        lines,
         src,
         sink,
     )?;
-    D::write(alloc, profile, &settled.engine, sink)?;
+    let last = LastState {
+        engine: &settled.engine,
+        profile,
+    };
+    D::write(alloc, &last, sink)?;
     Ok(settled.refused > 0)
 }

@@ -11,8 +11,8 @@ use kc_session::SessionFault;
 use kc_text::{LineBuf, LineReader, Sink, Source};
 use std::alloc::Global;
 
-/// Reads the header of a batch input, and returns it with the reader, which stands at the first batch. If the header is
-/// refused, writes its line and returns None.
+/// Reads the header of a batch input, and returns it with the lines after it. If the header is refused, writes its line
+/// and returns None.
 pub fn open_input<S: Source, K: Sink>(
     alloc: Global,
     src: &mut S,
@@ -21,9 +21,9 @@ pub fn open_input<S: Source, K: Sink>(
     ensures text { OpensInput (option_map input_said (S.left src.old)) (S.left src.new) (K.taken sink.old) (K.taken sink.new) result }
     ensures cause { FaultCause (S.faults src.old) (S.faults src.new) (K.faults sink.old) (K.faults sink.new) result }
 {
-    let mut reader = LineReader::new(alloc, LINE_LIMIT, INPUT_LIMIT)?;
-    match Header::read(alloc, &mut reader, src) {
-        Ok(header) => Ok(Some((header, reader))),
+    let mut lines = LineReader::new(alloc, LINE_LIMIT, INPUT_LIMIT)?;
+    match Header::read(alloc, &mut lines, src) {
+        Ok(header) => Ok(Some((header, lines))),
         Err(HeaderFault::Refused { line }) => {
             write_header_refused(&mut LineBuf::new(alloc), sink, line)?;
             Ok(None)

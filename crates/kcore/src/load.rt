@@ -50,11 +50,11 @@ pub fn run_load<R: Threads + Sync, K: Sink, G: Gate + Sync>(
 {
     let alloc = rounds.alloc();
     let mut source = source;
-    let Some((header, reader)) = open_input(alloc, &mut source, sink)? else {
+    let Some((header, lines)) = open_input(alloc, &mut source, sink)? else {
         return Ok(true);
     };
     let mut null = NullSink::new();
-    let ended = run_after(rounds, header, reader, &mut source, &mut null)?;
+    let ended = run_after(rounds, header, lines, &mut source, &mut null)?;
     write_load(alloc, sink, &ended)?;
     Ok(ended.refused > 0)
 }

@@ -19,32 +19,17 @@ mod limits;
 mod load;
 pub mod process;
 mod run;
-mod status;
 #[cfg(test)]
 mod tests;
 pub mod top;
 
-use kc_text::Words;
+use kc_shell::{Status, words_of};
 use process::program;
-use status::Status;
-use std::env;
-use std::io::{BufWriter, ErrorKind};
+use std::io::BufWriter;
 use std::process::ExitCode;
-use std::rt::Env;
 
 // The most bytes of output that are held back.
 const BUFFER: usize = 65_536;
-
-// Returns the words of the command line. If one of them isn't text, they are no command.
-fn words_of<R: Env + AllocGlobal>(rt: &R) -> Result<Words, Status> {
-    match env::args(rt) {
-        Ok(args) => Words::from_args(rt.alloc(), args).map_err(|_| Status::Memory),
-        Err(e) => match e.kind() {
-            ErrorKind::OutOfMemory => Err(Status::Memory),
-            _ => Err(Status::Usage),
-        },
-    }
-}
 
 fn main(rt: HostRuntime) -> ExitCode {
     let words = match words_of(&rt) {

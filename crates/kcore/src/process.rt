@@ -6,9 +6,9 @@ ghost use Rattle.kcore.specs.Commands.{command_of};
 ghost use Rattle.kcore.specs.Process.{ProcessAnswers};
 ghost use Rattle.kcore.specs.private.Process.{HandsOn, last_status};
 
-use crate::status::Status;
 use crate::top::run_command;
 use kc_rounds::OpenGate;
+use kc_shell::Status;
 use kc_text::{StdSink, StdSource, Told, Words};
 use std::io::{BufWriter, Read, Write};
 use std::marker::Brand;
@@ -61,13 +61,13 @@ fn told<
         &mut output,
         &OpenGate::new(),
     );
-    let (done, writer) = handed_on(output.into_writer());
+    let (done, writer) = flush_into_inner(output.into_writer());
     (last_status(status, done), writer)
 }
 
 // Flushes a writer. Returns whether it passed on all bytes that it held back, and the writer without its buffer.
 #[tactic(auto, using(crate::proofs::Processes::all_on, crate::proofs::Processes::some_on))]
-fn handed_on<W: Write + Drop>(writer: BufWriter<W>) -> (bool, W)
+fn flush_into_inner<W: Write + Drop>(writer: BufWriter<W>) -> (bool, W)
     ensures { HandsOn result.0 (writer_contents W.contents writer) (W.contents result.1) }
 {
     let mut writer = writer;
@@ -81,11 +81,5 @@ fn handed_on<W: Write + Drop>(writer: BufWriter<W>) -> (bool, W)
 fn last_status(status: Status, done: bool) -> Status
     ensures { result ≡ last_status done status }
 {
-    if done {
-        return status;
-    }
-    match status {
-        Status::Done | Status::Refused => Status::WriteFault,
-        _ => status,
-    }
+    if done { status } else { status.unflushed() }
 }

@@ -21,11 +21,11 @@ use std::thread::Threads;
 pub fn run_after<R: Threads + Sync, S: Source + Send, K: Sink + Send, G: Gate + Sync>(
     rounds: &Rounds<'_, R, G>,
     header: Header,
-    reader: LineReader,
+    lines: LineReader,
     src: &mut S,
     sink: &mut K,
 ) -> Result<Ended, SessionFault>
-    ensures text { WritesSession session_text header (batches_left (rules_of header MAX_ITEMS) reader (S.left src.old)) (K.taken sink.old) (K.taken sink.new) result }
+    ensures text { WritesSession session_text header (batches_left (rules_of header MAX_ITEMS) lines (S.left src.old)) (K.taken sink.old) (K.taken sink.new) result }
     ensures cause { FaultCause (S.faults src.old) (S.faults src.new) (K.faults sink.old) (K.faults sink.new) result }
 {
     run_session(
@@ -34,7 +34,7 @@ pub fn run_after<R: Threads + Sync, S: Source + Send, K: Sink + Send, G: Gate + 
         rounds.gate(),
         rounds.workers(),
         header,
-        reader,
+        lines,
         src,
         sink,
     )
@@ -50,9 +50,9 @@ pub fn run_input<R: Threads + Sync, S: Source + Send, K: Sink + Send, G: Gate + 
     ensures text { Writes IsRunText (option_map input_said (S.left src.old)) (K.taken sink.old) (K.taken sink.new) result }
     ensures cause { FaultCause (S.faults src.old) (S.faults src.new) (K.faults sink.old) (K.faults sink.new) result }
 {
-    let Some((header, reader)) = open_input(rounds.alloc(), src, sink)? else {
+    let Some((header, lines)) = open_input(rounds.alloc(), src, sink)? else {
         return Ok(true);
     };
-    let ended = run_after(rounds, header, reader, src, sink)?;
+    let ended = run_after(rounds, header, lines, src, sink)?;
     Ok(ended.refused > 0)
 }

@@ -1,6 +1,7 @@
 //! The top call: a command line, an input and an output.
 ghost use Rattle.std.specs.Prelude.{◌≡◌, ◌≢◌, ◌↔◌, None, Some, Option};
-ghost use Rattle.kcore.specs.Commands.{command_of, Answers, Holds, HasCause, IsComplete, ReadsNothing};
+ghost use Rattle.kc_shell.specs.Statuses.{HasCause};
+ghost use Rattle.kcore.specs.Commands.{command_of, Answers, Holds, IsComplete, ReadsNothing};
 ghost use Rattle.kcore.specs.private.Commands.{FitsWorkers};
 ghost use Rattle.kcore.specs.private.Writing.{status_of};
 
@@ -10,9 +11,9 @@ use crate::command::Command;
 use crate::documents::{Dense, Exact, Final, Orient, settle_input};
 use crate::load::run_load;
 use crate::run::run_input;
-use crate::status::Status;
 use kc_rounds::{Gate, Rounds};
 use kc_session::{GenSource, SessionFault};
+use kc_shell::Status;
 use kc_text::{Sink, Source, Words};
 use std::alloc::Global;
 use std::thread::Threads;

@@ -2,11 +2,11 @@
 use Rattle.std.proofs.Common.{ℕ, ◌≡◌, ◌<◌, ◌+◌, List, [], ◌∷◌, ◌++◌, length, get_or, map, take, drop, refl, sym, ap, ◌∙◌, subst, arith, append_assoc}
 use Rattle.std.specs.Prelude.{All}
 use Rattle.std.specs.List.{range_with_len}
-use Rattle.std.proofs.lemmas.List.{take-append-le, take_all, take_more, length-append, append-nil, nil_from_length}
+use Rattle.std.proofs.lemmas.List.{take-append-le, take_all, length-append, append-nil, nil_from_length}
 use Rattle.std.proofs.lemmas.List.FromFn.{length-map-range_with_len, get_or-map-range_with_len}
 use Rattle.kc_graph.specs.declared.items.Item.{Item}
 use Rattle.kc_intake.specs.Views.{IntakeShape, ClientShape, new_client}
-use Rattle.kserve.specs.private.Clients.{ended_client, AreNew, HaveEnded}
+use Rattle.kserve.specs.private.Clients.{AreNew, HaveEnded}
 
 -- clients as they are opened
 pub opened : (intake : IntakeShape) (count : ℕ) (clients : List ClientShape) → clients ≡ map (new_client intake) (range_with_len 0 count) → AreNew intake count clients
@@ -46,13 +46,3 @@ next_of_all P all past rest later x every e f =
     let size : length past < length all = (let z = ap (λ zs. length zs) whole in let y = length-append past (x ∷ later) in omega (arith, z, y)) in
     let here : get_or all (length past) x ≡ x = ap (λ zs. get_or zs (length past) x) (sym whole) ∙ at_end past x later x in
     subst P here (every (length past) x size)
-
--- an item of a script was submitted
-pub submitted_more : (intake : IntakeShape) (number : ℕ) (script : List Item) (i : ℕ) (d : Item) (old new : ClientShape) → i < length script → old ≡ ended_client intake number (take i script) → new ≡ record old { sent = old.sent ++ get_or script i d ∷ [] }
-    → new ≡ ended_client intake number (take (i + 1) script)
-submitted_more intake number script i d old new lt e f =
-    f ∙ (ap (λ (z : ClientShape). record z { sent = z.sent ++ get_or script i d ∷ [] }) e ∙ ap (λ xs. ended_client intake number xs) (sym (take_more script i d lt)))
-
--- all of them were
-pub submitted_all : (intake : IntakeShape) (number : ℕ) (script : List Item) (k : ℕ) (client : ClientShape) → k ≡ length script → client ≡ ended_client intake number (take k script) → client ≡ ended_client intake number script
-submitted_all intake number script k client e f = f ∙ ap (λ xs. ended_client intake number xs) (take_all k script (omega (arith, e)))

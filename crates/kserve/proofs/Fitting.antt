@@ -6,6 +6,7 @@ use Rattle.std.proofs.lemmas.Bool.Decides.{nat_tests}
 use Rattle.std.proofs.lemmas.List.{append-nil, length-append, length-map, nil_from_length}
 use Rattle.std.proofs.lemmas.List.Folds.{list_all-map}
 use Rattle.std.proofs.lemmas.List.Elements.{filter-append, All-nil, All-cons, All-head, All-tail, All-append}
+use Rattle.std.proofs.lemmas.Bool.{and_parts}
 use mathlib.Core.List.{IsPrefix}
 use Rattle.kc_graph.specs.declared.items.Item.{Item}
 use Rattle.kc_graph.specs.declared.limits.TheConstants.{MAX_ITEMS}
@@ -51,21 +52,17 @@ shorter_prefix {X = X} xs ys p =
     let all = ap (λ (zs : List X). length zs) p.1 in
     omega (arith, long, all)
 
-pub both_true : (a b : Bool) → (a && b) ≡ true → (a ≡ true) × (b ≡ true)
-both_true true b e = (refl, e)
-both_true false b e = absurd cc
-
 -- what is true of the items of each client is true of all
 pub all_due : (n k : ℕ) (us : List Update) → All (λ u. u.client < k) us → ((c : ℕ) → c < k → are_due n (updates_of c us) ≡ true) → are_due n us ≡ true
 all_due n k [] all h = refl
 all_due n k (u ∷ us) all h =
     let own : are_due n (u ∷ updates_of u.client us) ≡ true = subst (λ (vs : List Update). are_due n vs ≡ true) (of_own u.client u us refl) (h u.client (All-head (λ u. u.client < k) u us all)) in
-    let first = (both_true (is_due n u.item) (are_due n (updates_of u.client us)) own).0 in
+    let first = (and_parts (is_due n u.item) (are_due n (updates_of u.client us)) own).0 in
     let rest = all_due n k us (All-tail (λ u. u.client < k) u us all) (λ c lt. later c (u.client == c) (h c lt)) in
     ap (λ b. b && are_due n us) first ∙ rest
   where
     later : (c : ℕ) (b : Bool) → are_due n (cond b (u ∷ updates_of c us) (updates_of c us)) ≡ true → are_due n (updates_of c us) ≡ true
-    later c true e = (both_true (is_due n u.item) (are_due n (updates_of c us)) e).1
+    later c true e = (and_parts (is_due n u.item) (are_due n (updates_of c us)) e).1
     later c false e = e
 
 list_from_all : (n : ℕ) (items : List Item) → All (λ item. is_due n item ≡ true) items → list_all (is_due n) items ≡ true

@@ -6,6 +6,7 @@ use Rattle.std.proofs.lemmas.List.{append-nil, length-append, length-map}
 use Rattle.std.proofs.lemmas.List.Concat.{flat_map-append}
 use Rattle.std.proofs.lemmas.List.Elements.{All-nil, All-cons, All-head, All-tail}
 use Rattle.std.proofs.lemmas.List.Folds.{list_all-append}
+use Rattle.std.proofs.lemmas.Bool.{and_parts}
 use Rattle.kc_graph.specs.declared.cleaning.Cleaned.{Cleaned}
 use Rattle.kc_graph.specs.declared.items.Item.{Item}
 use Rattle.kc_graph.specs.declared.items.Item.TheVariants.{Insert, Delete, Isolate}
@@ -24,7 +25,6 @@ use Rattle.kserve.specs.private.Fitting.{is_due, are_due}
 use Rattle.kserve.specs.Fitting.{items_of}
 use Rattle.kserve.specs.private.Engines.{HasRoom}
 use Rattle.kserve.specs.Lines.{batch_text, batch_lines}
-use Rattle.kserve.proofs.Fitting.{both_true}
 
 -- after `count` updates there are no more edges than that, and at most two phases for each
 pub record IsWithin (count : ℕ) (s : State) : Type 0 where
@@ -78,7 +78,7 @@ inside_if_due n (Isolate v) e = absurd cc
 
 pub inside_all : (n : ℕ) (us : List Update) → are_due n us ≡ true → All (IsInside n) (items_of us)
 inside_all n [] e = All-nil (IsInside n)
-inside_all n (u ∷ us) e = All-cons (IsInside n) u.item (items_of us) (inside_if_due n u.item (both_true (is_due n u.item) (are_due n us) e).0) (inside_all n us (both_true (is_due n u.item) (are_due n us) e).1)
+inside_all n (u ∷ us) e = All-cons (IsInside n) u.item (items_of us) (inside_if_due n u.item (and_parts (is_due n u.item) (are_due n us) e).0) (inside_all n us (and_parts (is_due n u.item) (are_due n us) e).1)
 
 -- the sound state after a batch
 pub sound_more : (s t : State) (items : List Item) → IsSound MAX_EDGES s → HasRoom s → All (IsInside s.graph.vertices) items → length items ≤ MAX_ITEMS → IsAfterBatch s (cleaned s.graph items) t → IsSound MAX_EDGES t
@@ -118,7 +118,7 @@ pub leads : (n count : ℕ) (s : State) (bs : List (List Update)) → IsSound MA
     → (t : State) × (LeadTo s bs t × IsSound MAX_EDGES t)
 leads n count s [] k w same some due few = (s, (refl, k))
 leads n count s (b ∷ bs) k w same some due few =
-    let d = both_true (are_due n b) (are_due n (all_updates bs)) (sym (list_all-append (λ u. is_due n u.item) b (all_updates bs)) ∙ due) in
+    let d = and_parts (are_due n b) (are_due n (all_updates bs)) (sym (list_all-append (λ u. is_due n u.item) b (all_updates bs)) ∙ due) in
     let inside : All (IsInside s.graph.vertices) (items_of b) = subst (λ (m : ℕ). All (IsInside m) (items_of b)) (sym same) (inside_all n b d.0) in
     let long : length (b ++ all_updates bs) ≡ length b + length (all_updates bs) = length-append b (all_updates bs) in
     let size : length (items_of b) ≡ length b = length-map b (λ (u : Update). u.item) in

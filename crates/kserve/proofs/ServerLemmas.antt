@@ -1,9 +1,10 @@
 -- The server, batch after batch.
-use Rattle.std.proofs.Common.{ℕ, ◌≡◌, ◌≤◌, ◌<◌, ◌+◌, Bool, true, false, List, [], ◌∷◌, ◌++◌, length, refl, sym, ap, ◌∙◌, subst, arith}
+use Rattle.std.proofs.Common.{ℕ, ◌≡◌, ◌≤◌, ◌<◌, ◌+◌, List, [], ◌∷◌, ◌++◌, length, refl, sym, ap, ◌∙◌, subst, arith}
 use Rattle.std.specs.Prelude.{Option, Result, Ok, Err, OnOk, All, ◌&&◌}
 use Rattle.std.specs.Io.KnownBytes.{append_known}
 use Rattle.std.proofs.lemmas.List.Elements.{All-nil, All-push, All-append}
 use Rattle.std.proofs.lemmas.List.{length-map}
+use Rattle.std.proofs.lemmas.Bool.{and_right}
 use Rattle.kc_text.specs.Writing.{IsPrefix}
 use Rattle.kc_text.proofs.lemmas.Writing.{append_none, append_twice, prefix_longer, prefix_then}
 use Rattle.kc_graph.specs.declared.limits.TheConstants.{MAX_ITEMS}
@@ -50,10 +51,6 @@ prefix_on before now later bs b number is e f =
 prefix_stays : (before now : Option (List ℕ)) (bs : List (List Update)) (b : List Update) → IsPrefix before now (batch_lines 1 bs) → IsPrefix before now (batch_lines 1 (bs ++ b ∷ []))
 prefix_stays before now bs b p = subst (λ (t : List ℕ). IsPrefix before now t) (sym (lines_more 1 bs b)) (prefix_longer before now (batch_lines 1 bs) (batch_text (1 + length bs) b) p)
 
-and_false : (a b : Bool) → b ≡ false → (a && b) ≡ false
-and_false true b e = e
-and_false false b e = refl
-
 after_ok : {T : Type 0} (n number : ℕ) (s0 s t : State) (bs : List (List Update)) (b : List Update) (before now later : Option (List ℕ)) (result : Result T Stop) → number ≡ 1 + length bs
     → HaveServed n s0 bs s before now → TakesBatch n number b s t now later result → Serves n s0 (bs ++ b ∷ []) t before later result
 after_ok n number s0 s t bs b before now later (Ok x) is h a = record {
@@ -63,7 +60,7 @@ after_ok n number s0 s t bs b before now later (Ok x) is h a = record {
 }
 after_ok n number s0 s t bs b before now later (Err WriteFault) is h a = prefix_on before now later bs b number is h.taken a
 after_ok n number s0 s t bs b before now later (Err (Memory e)) is h a = prefix_on before now later bs b number is h.taken a
-after_ok n number s0 s t bs b before now later (Err Stray) is h a = (due_more n bs b ∙ and_false (are_due n (all_updates bs)) (are_due n b) a.0, prefix_on before now later bs b number is h.taken a.1)
+after_ok n number s0 s t bs b before now later (Err Stray) is h a = (due_more n bs b ∙ and_right (are_due n (all_updates bs)) (are_due n b) a.0, prefix_on before now later bs b number is h.taken a.1)
 
 after_stop : (T : Type 0) (n : ℕ) (s0 s t : State) (bs : List (List Update)) (b : List Update) (before now later : Option (List ℕ)) (stop : Stop) → later ≡ now → Serves {T = T} n s0 bs s before now (Err stop) → Serves {T = T} n s0 (bs ++ b ∷ []) t before later (Err stop)
 after_stop T n s0 s t bs b before now later WriteFault e h = rw e (prefix_stays before now bs b h)
@@ -102,10 +99,6 @@ none_drained intake d e f = record {
   sizes = rw f (All-nil (λ batch. (1 ≤ length batch) × (length batch ≤ intake.capacity)));
   clients = rw f (All-nil (λ u. u.client < d.clients));
 }
-
--- a drain that found the intake empty
-pub drained_same : (intake : IntakeShape) (first old new : DrainerShape) → AreDrained intake first old → new ≡ record old { batch = [] } → AreDrained intake first new
-drained_same intake first old new d e = subst (λ (z : DrainerShape). AreDrained intake first z) (sym e) (record { intake_is = d.intake_is; clients_are = d.clients_are; sizes = d.sizes; clients = d.clients })
 
 -- a drain of a batch
 pub drained_more : (intake : IntakeShape) (first old new : DrainerShape) → AreDrained intake first old → new ≡ record old { batch = new.batch; taken = old.taken ++ new.batch ∷ [] } → (1 ≤ length new.batch) × (length new.batch ≤ intake.capacity) → All (λ u. u.client < new.clients) new.batch

@@ -1,10 +1,9 @@
 -- The texts of scripts that are served.
-use Rattle.std.proofs.Common.{ℕ, ◌≡◌, ◌≤◌, ◌<◌, Bool, true, false, List, [], ◌∷◌, ◌++◌, length, refl, sym, ap, ◌∙◌, subst, arith}
+use Rattle.std.proofs.Common.{ℕ, ◌≡◌, ◌≤◌, Bool, true, false, List, [], ◌∷◌, ◌++◌, length, refl, sym, ap, ◌∙◌, subst, arith}
 use Rattle.std.specs.Prelude.{Option, Some, None, Result, Ok, Err, All, if◌then◌else◌}
 use Rattle.std.specs.Io.KnownBytes.{append_known}
 use Rattle.std.specs.Option.{option_map}
 use Rattle.std.proofs.lemmas.Bool.{false≢true}
-use Rattle.std.proofs.lemmas.List.Sums.{get_or-le-sum_by}
 use Rattle.std.proofs.lemmas.List.Elements.{All-nil, All-head, All-tail}
 use Rattle.kc_text.specs.declared.buf.SendFault.{SendFault}
 use Rattle.kc_text.specs.declared.buf.SendFault.TheVariants as send
@@ -15,9 +14,9 @@ use Rattle.kc_text.specs.Lines.{lines}
 use Rattle.kc_text.specs.Words.{words}
 use Rattle.kc_text.specs.Writing.{IsPrefix, Appends, WriteCause}
 use Rattle.kc_text.specs.Kept.{kept, text_of}
-use Rattle.kc_text.proofs.lemmas.Writing.{append_none, append_twice, prefix_none, prefix_longer, prefix_then}
+use Rattle.kc_text.proofs.lemmas.Writing.{append_twice, prefix_none, prefix_longer, prefix_then}
 use Rattle.kc_graph.specs.declared.items.Item.{Item}
-use Rattle.kc_graph.specs.declared.limits.TheConstants.{MAX_EDGES, MAX_ITEMS}
+use Rattle.kc_graph.specs.declared.limits.TheConstants.{MAX_EDGES}
 use Rattle.kc_levels.specs.declared.profile.Profile.{Profile}
 use Rattle.kc_levels.specs.declared.profile.Profile.TheVariants.{One}
 use Rattle.kc_levels.specs.LevelList.{MeetsBoth}
@@ -38,8 +37,8 @@ use Rattle.kserve.specs.declared.fault.Stop.TheVariants as stop
 use Rattle.kserve.specs.declared.reading.Said.{Said}
 use Rattle.kserve.specs.declared.reading.Said.TheVariants as said
 use Rattle.kserve.specs.declared.scripts.Scripts.{Scripts}
-use Rattle.kserve.specs.declared.status.ServeStatus.{ServeStatus}
-use Rattle.kserve.specs.declared.status.ServeStatus.TheVariants as status
+use Rattle.kc_shell.specs.declared.status.Status.{Status}
+use Rattle.kc_shell.specs.declared.status.Status.TheVariants as status
 use Rattle.kserve.specs.declared.limits.TheConstants.{CAPACITY, LINE_LIMIT, INPUT_LIMIT}
 use Rattle.kserve.specs.declared.head.Head.{Head}
 use Rattle.kserve.specs.declared.head.Head.TheVariants as head
@@ -47,7 +46,7 @@ use Rattle.kserve.specs.Batches.{start, LeadTo}
 use Rattle.kserve.specs.private.Fitting.{is_due, are_due}
 use Rattle.kserve.specs.Fitting.{Fit}
 use Rattle.kserve.specs.Inputs.{ScriptInput, WithScripts, Refused, rules_for, items_in, has_room, scripts_from, after_head, head_of, after_magic, input_from, is_magic, input_said}
-use Rattle.kserve.specs.Ending.{HasCause}
+use Rattle.kc_shell.specs.Statuses.{HasCause}
 use Rattle.kserve.specs.Lines.{head_text, batch_lines, refused_line}
 use Rattle.kserve.specs.private.Ending.{status_after}
 use Rattle.kserve.specs.private.Reading.{input_as, Says}
@@ -134,19 +133,6 @@ pub tail_written : (U : Type 0) (n : ℕ) (scripts : List (List Item)) (t : Stat
 tail_written U n scripts t before now later last (Ok x) k e s p = served_whole n scripts t before now later last k e s p
 tail_written U n scripts t before now later last (Err f) k e s p = tail_stopped n scripts t before now later last k e s p
 
--- no clients, no batches
-pub none_served : (n : ℕ) (scripts : List (List Item)) (t : State) (before now : Option (List ℕ)) → scripts ≡ [] → t ≡ start n → now ≡ before → HaveServedAll n scripts t before now
-none_served n scripts t before now e f h = record {
-  batches = [];
-  fit = record {
-    sizes = All-nil (λ batch. (1 ≤ length batch) × (length batch ≤ CAPACITY));
-    clients = All-nil (λ u. u.client < length scripts);
-    items = λ c lt. absurd (omega (arith, ap (λ (xs : List (List Item)). length xs) e, lt));
-  };
-  lead = f;
-  taken = h ∙ append_none before;
-}
-
 -- what can be said of an input's scripts
 abbrev pub CanServeInput : ScriptInput → Type 0
 CanServeInput (WithScripts n scripts) = CanServe n scripts
@@ -206,12 +192,8 @@ stopped_early scripts before now e = let there = some_fit scripts in record { ba
 pub none_strays : (n : ℕ) (scripts : List (List Item)) (bs : List (List Update)) → CanServe n scripts → Fit scripts bs → are_due n (all_updates bs) ≡ false → ⊥
 none_strays n scripts bs a fit e = false≢true (sym e ∙ fit_due n scripts bs a fit)
 
--- a script has no more items than all have
-pub few_each : (scripts : List (List Item)) → items_in scripts ≤ MAX_ITEMS → All (λ script. length script ≤ MAX_ITEMS) scripts
-few_each scripts few i d lt = let one = get_or-le-sum_by length scripts i d lt in omega (arith, one, few)
-
 -- an input that is read
-pub answered : (left : Option (List ℕ)) (before now : Option (List ℕ)) (status : ServeStatus) → ((bytes : List ℕ) → left ≡ Some bytes → Wrote (input_said bytes) before now status) → Answers left before now status
+pub answered : (left : Option (List ℕ)) (before now : Option (List ℕ)) (status : Status) → ((bytes : List ℕ) → left ≡ Some bytes → Wrote (input_said bytes) before now status) → Answers left before now status
 answered None before now status h = tt
 answered (Some bytes) before now status h = h bytes refl
 

@@ -5,11 +5,12 @@ use Rattle.kc_graph.specs.declared.items.Item.{Item}
 use Rattle.kc_graph.specs.declared.items.Item.TheVariants.{Insert, Delete, Isolate}
 use Rattle.kc_text.specs.declared.reason.Reason.{Reason}
 use Rattle.kc_text.specs.Reasons.{reason_word}
-use Rattle.kc_report.specs.Lines.{line_of, vertices_line}
+use Rattle.kc_text.specs.Printing.{printed_line}
+use Rattle.kc_report.specs.Lines.{vertices_line}
 use Rattle.kc_intake.specs.declared.updates.Update.{Update}
 
 abbrev pub magic_line : List ℕ
-magic_line = line_of (codes "kserve-run" ∷ codes "1" ∷ [])
+magic_line = printed_line (codes "kserve-run" ∷ codes "1" ∷ [])
 
 -- the two lines ahead of all others
 abbrev pub head_text : ℕ → List ℕ
@@ -17,10 +18,10 @@ head_text n = magic_line ++ vertices_line n
 
 -- the one line of an input that is refused
 abbrev pub refused_line : ℕ → Reason → List ℕ
-refused_line line reason = line_of (codes "refused" ∷ codes "line" ∷ decimal line ∷ reason_word reason ∷ [])
+refused_line line reason = printed_line (codes "refused" ∷ codes "line" ∷ decimal line ∷ reason_word reason ∷ [])
 
 abbrev pub batch_line : ℕ → List ℕ
-batch_line number = line_of (codes "batch" ∷ decimal number ∷ [])
+batch_line number = printed_line (codes "batch" ∷ decimal number ∷ [])
 
 -- an item as a line of an input has it
 abbrev pub item_words : Item → List (List ℕ)
@@ -30,7 +31,7 @@ item_words (Isolate v) = codes "x" ∷ decimal v ∷ []
 
 -- an update: the number of its client, and its item
 abbrev pub take_line : Update → List ℕ
-take_line u = line_of (codes "take" ∷ decimal u.client ∷ item_words u.item)
+take_line u = printed_line (codes "take" ∷ decimal u.client ∷ item_words u.item)
 
 -- a batch: its number, and its updates
 abbrev pub batch_text : ℕ → List Update → List ℕ

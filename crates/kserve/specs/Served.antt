@@ -9,8 +9,8 @@ use Rattle.kc_levels.specs.LevelList.{MeetsBoth}
 use Rattle.kc_report.specs.VertexLines.{tail_text}
 use Rattle.kc_engine.specs.States.{State}
 use Rattle.kc_intake.specs.declared.updates.Update.{Update}
-use Rattle.kserve.specs.declared.status.ServeStatus.{ServeStatus}
-use Rattle.kserve.specs.declared.status.ServeStatus.TheVariants as status
+use Rattle.kc_shell.specs.declared.status.Status.{Status}
+use Rattle.kc_shell.specs.declared.status.Status.TheVariants as status
 use Rattle.kserve.specs.Inputs.{ScriptInput, WithScripts, Refused, input_said}
 use Rattle.kserve.specs.Batches.{start, LeadTo}
 use Rattle.kserve.specs.Fitting.{Fit}
@@ -62,7 +62,7 @@ IsRefused (Refused line reason) = Unit {0}
 --
 -- With Done it took a text of the scripts, and with Refused the line for which the input is refused. After a write
 -- fault and without memory it took a prefix of such a text, and else nothing.
-abbrev pub Wrote : ScriptInput → Option (List ℕ) → Option (List ℕ) → ServeStatus → Type 0
+abbrev pub Wrote : ScriptInput → Option (List ℕ) → Option (List ℕ) → Status → Type 0
 Wrote input before now status.Done = IsAccepted input × WritesWhole (IsTextOf input) before now
 Wrote input before now status.Refused = IsRefused input × WritesWhole (IsTextOf input) before now
 Wrote input before now status.Usage = now ≡ before
@@ -71,18 +71,18 @@ Wrote input before now status.WriteFault = WritesPrefix (IsTextOf input) before 
 Wrote input before now status.Memory = WritesPrefix (IsTextOf input) before now
 
 -- the same of the bytes of the source, if the source tells them
-abbrev pub Answers : Option (List ℕ) → Option (List ℕ) → Option (List ℕ) → ServeStatus → Type 0
+abbrev pub Answers : Option (List ℕ) → Option (List ℕ) → Option (List ℕ) → Status → Type 0
 Answers None before now ended = Unit {0}
 Answers (Some bytes) before now ended = Wrote (input_said bytes) before now ended
 
 -- the call ended as the input decides, with `Done` if it has scripts and with `Refused` if it is refused; or there was
 -- no memory
-abbrev pub EndsAsDecided : ScriptInput → ServeStatus → Type 0
+abbrev pub EndsAsDecided : ScriptInput → Status → Type 0
 EndsAsDecided (WithScripts n scripts) ended = (ended ≡ status.Done) ⊎ (ended ≡ status.Memory)
 EndsAsDecided (Refused line reason) ended = (ended ≡ status.Refused) ⊎ (ended ≡ status.Memory)
 
 -- if the words are a number of workers, the source tells its bytes, and no count of faults rose: no other
 -- answer is left
-abbrev pub IsComplete : Option ℕ → Option (List ℕ) → ℕ → ℕ → ℕ → ℕ → ServeStatus → Type 0
+abbrev pub IsComplete : Option ℕ → Option (List ℕ) → ℕ → ℕ → ℕ → ℕ → Status → Type 0
 IsComplete workers left r0 r1 w0 w1 ended =
     (count : ℕ) (bytes : List ℕ) → workers ≡ Some count → left ≡ Some bytes → ¬ (Rose r0 r1) → ¬ (Rose w0 w1) → EndsAsDecided (input_said bytes) ended

@@ -3,9 +3,8 @@ ghost use Rattle.std.specs.Prelude.{◌≡◌, ◌≤◌, length, None, All, IfO
 ghost use Rattle.kc_graph.specs.declared.limits.TheConstants.{MAX_EDGES};
 ghost use Rattle.kc_graph.specs.Cleaning.{IsInside, cleaned};
 ghost use Rattle.kc_engine.specs.Batches.{IsAfterBatch, refusal_of};
-ghost use Rattle.kserve.specs.Batches.{start};
 ghost use Rattle.kserve.specs.private.Fitting.{is_due};
-ghost use Rattle.kserve.specs.private.Engines.{IsOpen};
+ghost use Rattle.kserve.specs.private.Engines.{IsFresh, IsOpen};
 ghost use Rattle.kserve.specs.private.Serving.{AreItems};
 
 use kc_batch::Items;
@@ -24,8 +23,7 @@ pub fn open(alloc: Global, n: u32, workers: u32) -> Result<Engine, AllocError>
     requires small { n ≤ MAX_VERTICES }
     requires some_workers { 1 ≤ workers }
     requires few_workers { workers ≤ 64 }
-    ensures state { IfOk result (λ e. e.state ≡ start n) }
-    ensures open { IfOk result IsOpen }
+    ensures { IfOk result (IsFresh n) }
 {
     Engine::open(
         alloc,
@@ -80,8 +78,9 @@ pub fn apply<R: Threads + Sync, G: Gate + Sync>(
     let alloc = rounds.alloc();
     let cleaned = clean_by(rt, alloc, engine.workers(), engine.graph(), items)?;
     match engine.plan(rt, alloc, rounds.gate(), &cleaned) {
-        Ok(_plan) => {
+        Ok(plan) => {
             engine.leave_unshown();
+            engine.reuse(plan);
             Ok(())
         }
         Err(EngineFault::Memory(e)) => Err(e),

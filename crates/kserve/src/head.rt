@@ -36,26 +36,26 @@ fn is_magic(text: &[u8]) -> bool
     next_word(text, end).is_none() && is_named(name, b"kserve") && is_named(version, b"1")
 }
 
-/// Reads the lines `kserve 1` and `vertices N`, as `input_from` of `specs/Inputs` says. Afterwards the reader stands
-/// after them.
+/// Reads the lines `kserve 1` and `vertices N`, as `input_from` of `specs/Inputs` says. Afterwards `lines` stands after
+/// them.
 ///
-/// `Refused` has the first of the two that doesn't have its form, or the number of the reader's `End` or `Limit` in its
-/// place. `ReadFault` comes only if the source's count of faults rose. After a fault, and after a refused line, the
-/// reader isn't used again.
+/// `Refused` has the first of the two that doesn't have its form, or the number of the `End` or `Limit` in its place.
+/// `ReadFault` comes only if the source's count of faults rose. After a fault, and after a refused line, `lines` isn't
+/// used again.
 pub fn read_head<S: Source>(
     alloc: Global,
-    reader: &mut LineReader,
+    lines: &mut LineReader,
     src: &mut S,
 ) -> Result<Head, LineFault>
-    ensures head { IfOk result (λ head. option_map input_from (kept_left reader.old (S.left src.old)) ≡ option_map (after_head head) (kept_left reader.new (S.left src.new))) }
+    ensures head { IfOk result (λ head. option_map input_from (kept_left lines.old (S.left src.old)) ≡ option_map (after_head head) (kept_left lines.new (S.left src.new))) }
     ensures range { IfOk result HasRange }
     ensures cause { ReadCause (S.faults src.old) (S.faults src.new) result }
 {
-    let first = next_kept(alloc, reader, src)?;
+    let first = next_kept(alloc, lines, src)?;
     if !is_magic(text_of(&first)) {
         return Ok(Head::Refused { line: first.number });
     }
-    let second = next_kept(alloc, reader, src)?;
+    let second = next_kept(alloc, lines, src)?;
     match vertices_in(text_of(&second)) {
         Some(n) => Ok(Head::Vertices(n)),
         None => Ok(Head::Refused {

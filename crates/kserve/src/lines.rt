@@ -1,7 +1,7 @@
 //! The lines of batches.
 ghost use Rattle.std.specs.Prelude.{◌≡◌, [], ◌∷◌, ◌++◌, OnOk};
 ghost use Rattle.kc_text.specs.Writing.{Appends, WriteCause};
-ghost use Rattle.kc_report.specs.Lines.{line_of};
+ghost use Rattle.kc_text.specs.Printing.{printed_line};
 ghost use Rattle.kserve.specs.Lines.{item_words, take_line, batch_text};
 
 use kc_graph::Item;
@@ -11,7 +11,7 @@ use std::alloc::AllocError;
 
 // The words of an item, each after a blank.
 fn fill_item(buf: &mut LineBuf, item: Item) -> Result<(), AllocError>
-    ensures { OnOk result (buf.new ++ 10 ∷ [] ≡ buf.old ++ (32 ∷ line_of (item_words item))) }
+    ensures { OnOk result (buf.new ++ 10 ∷ [] ≡ buf.old ++ (32 ∷ printed_line (item_words item))) }
 {
     match item {
         Item::Insert { u, v } => {

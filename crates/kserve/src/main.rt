@@ -7,8 +7,9 @@
 #![tactic(auto)]
 
 ghost use Rattle.std.specs.Prelude.{◌≡◌};
-ghost use Rattle.kserve.specs.declared.status.ServeStatus.{ServeStatus};
-ghost use Rattle.kserve.specs.Ending.{EndsAs, exit_number};
+ghost use Rattle.kc_shell.specs.declared.status.Status.{Status};
+ghost use Rattle.kc_shell.specs.Statuses.{exit_number};
+ghost use Rattle.kserve.specs.Ending.{EndsAs};
 
 mod applying;
 mod clients;
@@ -23,33 +24,19 @@ mod scripts;
 mod serve;
 mod server;
 mod serving;
-mod status;
 #[cfg(test)]
 mod tests;
 mod vertices;
 
 use kc_rounds::OpenGate;
-use kc_text::{Sink, StdSink, StdSource, Words};
+use kc_shell::{Status, words_of};
+use kc_text::{Sink, StdSink, StdSource};
 use serve::serve;
-use status::ServeStatus;
-use std::env;
-use std::io::{BufWriter, ErrorKind, Write};
+use std::io::{BufWriter, Write};
 use std::process::ExitCode;
-use std::rt::Env;
 
 // The bytes of the output that are kept back at most.
 const BUFFER: usize = 65_536;
-
-// The words of the command line. If one of them isn't text, they name no number of workers.
-fn words_of<R: Env + AllocGlobal>(rt: &R) -> Result<Words, ServeStatus> {
-    match env::args(rt) {
-        Ok(args) => Words::from_args(rt.alloc(), args).map_err(|_| ServeStatus::Memory),
-        Err(e) => match e.kind() {
-            ErrorKind::OutOfMemory => Err(ServeStatus::Memory),
-            _ => Err(ServeStatus::Usage),
-        },
-    }
-}
 
 fn main(rt: HostRuntime) -> ExitCode {
     let words = match words_of(&rt) {
@@ -57,7 +44,7 @@ fn main(rt: HostRuntime) -> ExitCode {
         Err(status) => return ExitCode::from(status.exit_number()),
     };
     let Ok(writer) = BufWriter::with_capacity(rt.alloc(), BUFFER, rt.stdout()) else {
-        return ExitCode::from(ServeStatus::Memory.exit_number());
+        return ExitCode::from(Status::Memory.exit_number());
     };
     let mut input = StdSource::new(rt.stdin());
     let mut output = StdSink::new(writer);
@@ -73,22 +60,19 @@ fn main(rt: HostRuntime) -> ExitCode {
 }
 
 // The exit number of the program after a call that ended so. Flushes the output.
-fn exit_number_of<W: Write + Drop>(status: ServeStatus, output: &mut StdSink<W>) -> u8
-    ensures { (last : ServeStatus) × (EndsAs status last output.old output.new × (result ≡ exit_number last)) }
+fn exit_number_of<W: Write + Drop>(status: Status, output: &mut StdSink<W>) -> u8
+    ensures { (last : Status) × (EndsAs status last output.old output.new × (result ≡ exit_number last)) }
 {
     ended(status, output).exit_number()
 }
 
 // The status of the program. What the writer still holds goes out now; if that fails, a call that was complete has
 // failed to write.
-fn ended<W: Write + Drop>(status: ServeStatus, output: &mut StdSink<W>) -> ServeStatus
+fn ended<W: Write + Drop>(status: Status, output: &mut StdSink<W>) -> Status
     ensures { EndsAs status result output.old output.new }
 {
     match output.flush() {
         Ok(()) => status,
-        Err(_) => match status {
-            ServeStatus::Done | ServeStatus::Refused => ServeStatus::WriteFault,
-            _ => status,
-        },
+        Err(_) => status.unflushed(),
     }
 }

@@ -44,19 +44,19 @@ fn add_script(scripts: &mut Vec<Items>, script: Items) -> Result<(), AllocError>
 // Reads the blocks after the head, each the script of a client.
 fn read_scripts<S: Source>(
     alloc: Global,
-    reader: &mut LineReader,
+    lines: &mut LineReader,
     src: &mut S,
     n: u32,
 ) -> Result<Said, BatchFault>
     requires some { 1 ≤ n }
     requires small { n ≤ MAX_VERTICES }
-    ensures said { IfOk result (λ said. Says said (option_map (scripts_from n []) (batches_left (rules_for n) reader.old (S.left src.old)))) }
+    ensures said { IfOk result (λ said. Says said (option_map (scripts_from n []) (batches_left (rules_for n) lines.old (S.left src.old)))) }
     ensures cause { BatchCause (S.faults src.old) (S.faults src.new) result }
 {
     let mut scripts = Vec::new(alloc);
     let mut count = 0;
     loop {
-        match next_batch(alloc, reader, src, n, Profile::One, MAX_ITEMS)? {
+        match next_batch(alloc, lines, src, n, Profile::One, MAX_ITEMS)? {
             Next::Items(batch) => {
                 let more = batch.items.as_slice().len();
                 if !has_room(scripts.len(), count, more) {
@@ -83,9 +83,9 @@ pub fn read_input<S: Source>(alloc: Global, src: &mut S) -> Result<Said, BatchFa
     ensures said { IfOk result (λ said. Says said (option_map input_said (S.left src.old))) }
     ensures cause { BatchCause (S.faults src.old) (S.faults src.new) result }
 {
-    let mut reader = LineReader::new(alloc, LINE_LIMIT, INPUT_LIMIT).map_err(BatchFault::Memory)?;
-    match read_head(alloc, &mut reader, src) {
-        Ok(Head::Vertices(n)) => read_scripts(alloc, &mut reader, src, n),
+    let mut lines = LineReader::new(alloc, LINE_LIMIT, INPUT_LIMIT).map_err(BatchFault::Memory)?;
+    match read_head(alloc, &mut lines, src) {
+        Ok(Head::Vertices(n)) => read_scripts(alloc, &mut lines, src, n),
         Ok(Head::Refused { line }) => Ok(Said::Refused {
             line,
             reason: Reason::Header,

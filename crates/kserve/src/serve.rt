@@ -1,33 +1,21 @@
 //! The top call: a command line, an input and an output.
-ghost use Rattle.std.specs.Prelude.{◌≡◌, ◌≢◌, ◌≤◌, ◌↔◌, ◌∷◌, [], None, IfSome};
-ghost use Rattle.kserve.specs.Ending.{workers_of, HasCause};
+ghost use Rattle.std.specs.Prelude.{◌≡◌, ◌≢◌, ◌≤◌, ◌↔◌, None, IfSome};
+ghost use Rattle.kc_shell.specs.Statuses.{HasCause};
+ghost use Rattle.kserve.specs.Ending.{workers_of};
 ghost use Rattle.kserve.specs.private.Ending.{status_after};
 ghost use Rattle.kserve.specs.Served.{Answers, IsComplete};
 
 use crate::context::ServeContext;
 use crate::reading::{Said, read_input};
 use crate::serving::serve_scripts;
-use crate::status::ServeStatus;
 use kc_batch::BatchFault;
 use kc_report::write_refusal;
 use kc_rounds::{Gate, Rounds};
-use kc_text::{LineBuf, SendFault, Sink, Source, Words, read_number};
+use kc_shell::{Status, workers_in};
+use kc_text::{LineBuf, SendFault, Sink, Source, Words};
 use std::alloc::Global;
 use std::sync::Wait;
 use std::thread::Threads;
-
-// The number of workers that one word says.
-#[tactic(auto, unfolding(crate::specs::Ending::workers_of))]
-fn workers_in(word: &[u8]) -> Option<u32>
-    ensures workers { result ≡ workers_of (word.now ∷ []) }
-    ensures few { IfSome result (λ workers. (1 ≤ workers) × (workers ≤ 64)) }
-{
-    let workers = read_number(word)?;
-    if workers < 1 || workers > 64 {
-        return None;
-    }
-    Some(workers)
-}
 
 // The number of workers that the words say: they are one number, 1 to 64.
 fn workers_of(words: &Words) -> Option<u32>
@@ -41,13 +29,13 @@ fn workers_of(words: &Words) -> Option<u32>
 }
 
 // The status of a call after a text was written: `complete`, unless a fault of the sink or of memory came first.
-fn status_after(complete: ServeStatus, written: Result<(), SendFault>) -> ServeStatus
+fn status_after(complete: Status, written: Result<(), SendFault>) -> Status
     ensures { result ≡ status_after complete written }
 {
     match written {
         Ok(()) => complete,
-        Err(SendFault::WriteFault) => ServeStatus::WriteFault,
-        Err(SendFault::Memory(_)) => ServeStatus::Memory,
+        Err(SendFault::WriteFault) => Status::WriteFault,
+        Err(SendFault::Memory(_)) => Status::Memory,
     }
 }
 
@@ -56,10 +44,10 @@ fn serve_input<R: Threads + Wait + Sync, S: Source, K: Sink + Send, G: Gate + Sy
     rounds: Rounds<'_, R, G>,
     src: &mut S,
     sink: &mut K,
-) -> ServeStatus
+) -> Status
     ensures text { Answers (S.left src.old) (K.taken sink.old) (K.taken sink.new) result }
     ensures cause { HasCause (S.faults src.old) (S.faults src.new) (K.faults sink.old) (K.faults sink.new) result }
-    ensures usage { result ≢ ServeStatus.Usage }
+    ensures usage { result ≢ Status.Usage }
 {
     let alloc = rounds.alloc();
     match read_input(alloc, src) {
@@ -68,16 +56,19 @@ fn serve_input<R: Threads + Wait + Sync, S: Source, K: Sink + Send, G: Gate + Sy
                 rounds,
                 asked: &asked,
             };
-            status_after(ServeStatus::Done, serve_scripts(&context, sink))
+            status_after(Status::Done, serve_scripts(&context, sink))
         }
         Ok(Said::Refused { line, reason }) => {
             let written = write_refusal(&mut LineBuf::new(alloc), sink, line, reason);
-            status_after(ServeStatus::Refused, written)
+            status_after(Status::Refused, written)
         }
-        Err(BatchFault::ReadFault) => ServeStatus::ReadFault,
-        Err(BatchFault::Memory(_)) => ServeStatus::Memory,
+        Err(BatchFault::ReadFault) => Status::ReadFault,
+        Err(BatchFault::Memory(_)) => Status::Memory,
     }
 }
+
+/// How a call of [`serve`] ended.
+pub type ServeStatus = Status;
 
 /// Serves the scripts of an input: each client submits its script to an intake. One server drains the intake, and
 /// applies and prints batch after batch. A phase of the engine uses up to as many threads as the words say.
@@ -115,14 +106,14 @@ pub fn serve<R: Threads + Wait + Sync, S: Source, K: Sink + Send, G: Gate + Sync
     ensures answer { Answers (S.left input.old) (K.taken output.old) (K.taken output.new) result }
     ensures cause { HasCause (S.faults input.old) (S.faults input.new) (K.faults output.old) (K.faults output.new) result }
     ensures complete { IsComplete (workers_of words.now) (S.left input.old) (S.faults input.old) (S.faults input.new) (K.faults output.old) (K.faults output.new) result }
-    ensures usage { (result ≡ ServeStatus.Usage) ↔ (workers_of words.now ≡ None) }
-    ensures untouched { result ≡ ServeStatus.Usage → (input.new ≡ input.old) × (output.new ≡ output.old) }
+    ensures usage { (result ≡ Status.Usage) ↔ (workers_of words.now ≡ None) }
+    ensures untouched { result ≡ Status.Usage → (input.new ≡ input.old) × (output.new ≡ output.old) }
 {
     match workers_of(words) {
         Some(workers) => {
             let rounds = Rounds::new(rt, alloc, gate, workers);
             serve_input(rounds, input, output)
         }
-        None => ServeStatus::Usage,
+        None => Status::Usage,
     }
 }

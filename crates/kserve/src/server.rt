@@ -2,10 +2,10 @@
 ghost use Rattle.std.specs.Prelude.{◌≡◌, ◌≤◌, [], length, OnOk};
 ghost use Rattle.kc_intake.specs.Updates.{all_updates};
 ghost use Rattle.kserve.specs.Batches.{start};
-ghost use Rattle.kserve.specs.private.Engines.{IsOpen, IsReady};
+ghost use Rattle.kserve.specs.private.Engines.{IsFresh, IsOpen, IsReady};
 ghost use Rattle.kserve.specs.private.Faults.{StopCause, GoesOnCause};
 ghost use Rattle.kserve.specs.private.Clients.{AreDrained};
-ghost use Rattle.kserve.specs.private.Serving.{TakesBatch, Serves, GoesOn, IsHeld};
+ghost use Rattle.kserve.specs.private.Serving.{TakesBatch, Serves, GoesOn, IsHandedOn};
 
 use crate::applying::{apply, items_of};
 use crate::context::ServeContext;
@@ -43,7 +43,7 @@ pub struct Server {
 // Hands on what was printed, unless the server has stopped.
 fn hand_on<K: Sink>(sink: &mut K, course: Result<(), Stop>) -> Result<(), Stop>
     ensures taken { K.taken sink.new ≡ K.taken sink.old }
-    ensures held { IsHeld course result }
+    ensures course { IsHandedOn course result }
     ensures cause { GoesOnCause (K.faults sink.old) (K.faults sink.new) course result }
 {
     match course {
@@ -131,8 +131,7 @@ impl Server {
     ) -> Result<(), Stop>
         requires capacity { intake.now.capacity ≡ CAPACITY }
         requires drainer { (drainer.old.intake ≡ intake.now) × (drainer.old.taken ≡ []) }
-        requires open { IsOpen self.old.engine }
-        requires start { self.old.engine.state ≡ start context.now.n }
+        requires fresh { IsFresh context.now.n self.old.engine }
         ensures served { Serves context.now.n (start context.now.n) drainer.new.taken self.new.engine.state (K.taken sink.old) (K.taken sink.new) result }
         ensures drained { AreDrained intake.now drainer.old drainer.new }
         ensures all { context.now.count ≤ length (all_updates drainer.new.taken) }

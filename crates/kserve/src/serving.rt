@@ -6,7 +6,7 @@ ghost use Rattle.kc_intake.specs.Updates.{all_updates};
 ghost use Rattle.kserve.specs.declared.limits.TheConstants.{CAPACITY};
 ghost use Rattle.kserve.specs.Batches.{start};
 ghost use Rattle.kserve.specs.private.Clients.{AreNew, HaveEnded, AreDrained};
-ghost use Rattle.kserve.specs.private.Engines.{IsOpen};
+ghost use Rattle.kserve.specs.private.Engines.{IsFresh, IsOpen};
 ghost use Rattle.kserve.specs.private.Faults.{IsFaultOf, StopCause};
 ghost use Rattle.kserve.specs.private.Served.{Writes};
 ghost use Rattle.kserve.specs.private.Serving.{Serves, ServesAll};
@@ -49,8 +49,7 @@ fn side_by_side<R: Threads + Wait + Sync, K: Sink + Send, G: Gate + Sync>(
 ) -> Result<(), Stop>
     requires none { opened.old.drainer.taken ≡ [] }
     requires clients { AreNew opened.old.intake (length context.now.scripts.items) opened.old.clients.items }
-    requires open { IsOpen server.old.engine }
-    requires start { server.old.engine.state ≡ start context.now.n }
+    requires fresh { IsFresh context.now.n server.old.engine }
     ensures served { Serves context.now.n (start context.now.n) opened.new.drainer.taken server.new.engine.state (K.taken sink.old) (K.taken sink.new) result }
     ensures intake { opened.new.intake ≡ opened.old.intake }
     ensures drained { AreDrained opened.old.intake opened.old.drainer opened.new.drainer }
@@ -68,7 +67,7 @@ fn side_by_side<R: Threads + Wait + Sync, K: Sink + Send, G: Gate + Sync>(
     thread::join_mut(
         rt,
         &mut ||
-            requires { IsSync R.row × IsSync G.row × (intake.now.capacity ≡ CAPACITY) × (drainer.now.intake ≡ intake.now) × (drainer.now.taken ≡ []) × IsOpen server.now.engine × (server.now.engine.state ≡ start context.now.n) }
+            requires { IsSync R.row × IsSync G.row × (intake.now.capacity ≡ CAPACITY) × (drainer.now.intake ≡ intake.now) × (drainer.now.taken ≡ []) × IsFresh context.now.n server.now.engine }
         { server.run(context, intake, drainer, sink) },
         &mut ||
             requires { IsSync R.row × IsSync G.row × AreNew intake.now (length scripts.now) clients.now.items × (length scripts.now ≤ MAX_CLIENTS) × All (λ script. length script ≤ MAX_ITEMS) scripts.now }
@@ -96,8 +95,7 @@ fn serve_clients<R: Threads + Wait + Sync, K: Sink + Send, G: Gate + Sync>(
     server: &mut Server,
     sink: &mut K,
 ) -> Result<(), SendFault>
-    requires open { IsOpen server.old.engine }
-    requires start { server.old.engine.state ≡ start context.now.n }
+    requires fresh { IsFresh context.now.n server.old.engine }
     ensures served { ServesAll context.now.n context.now.scripts.items server.new.engine.state (K.taken sink.old) (K.taken sink.new) result }
     ensures open { OnOk result (IsOpen server.new.engine) }
     ensures cause { WriteCause (K.faults sink.old) (K.faults sink.new) result }
@@ -131,8 +129,7 @@ fn serve_opened<R: Threads + Wait + Sync, K: Sink + Send, G: Gate + Sync>(
     server: &mut Server,
     sink: &mut K,
 ) -> Result<(), SendFault>
-    requires open { IsOpen server.old.engine }
-    requires start { server.old.engine.state ≡ start context.now.n }
+    requires fresh { IsFresh context.now.n server.old.engine }
     ensures text { Writes context.now.n context.now.scripts.items (K.taken sink.old) (K.taken sink.new) result }
     ensures cause { WriteCause (K.faults sink.old) (K.faults sink.new) result }
 {

@@ -219,18 +219,20 @@ impl<'a, R: Threads + Sync + Clock + Print> Bench<'a, R> {
         since(self.rt, start)
     }
 
-    // Reads of a store by `count` readers at once, while no writer works.
-    fn print_alone(&self, count: u32) -> anyhow::Result<()>
+    // Prints reads by `count` readers at once while no writer runs. They are of a store whose moves are cleared, then
+    // of one whose moves are marked.
+    fn print_without_writer(&self, count: u32) -> anyhow::Result<()>
         requires plans { ArePlans self.now.vertices self.now.plans.now }
     {
         let (store, mut writer) = Store::open(self.alloc, self.vertices, 0)?;
         let printed = self.print_both(&store, &mut writer, count);
+        // Dropped by calls, since values that end with their scope are dear to prove.
         drop(writer);
         drop(store);
         printed
     }
 
-    // Reads of a store by `count` readers at once, while a writer works.
+    // Prints reads by `count` readers at once while a writer works.
     fn print_beside(&self, count: u32) -> anyhow::Result<()>
         requires plans { ArePlans self.now.vertices self.now.plans.now }
     {
@@ -258,7 +260,7 @@ impl<'a, R: Threads + Sync + Clock + Print> Bench<'a, R> {
     {
         for count in [1, 8] {
             self.print_plain(count)?;
-            self.print_alone(count)?;
+            self.print_without_writer(count)?;
             self.print_beside(count)?;
         }
         self.print_moves()

@@ -46,10 +46,10 @@ struct Pace {
 }
 
 impl Pace {
-    // Waits until readers have asked so often for the first time after a batch.
-    fn wait(&self, times: u64) -> anyhow::Result<()> {
+    // Waits until `asked` is at least `asks`.
+    fn wait(&self, asks: u64) -> anyhow::Result<()> {
         for _turn in 0..TURNS {
-            if self.asked.load(SeqCst) >= times {
+            if self.asked.load(SeqCst) >= asks {
                 return Ok(());
             }
             thread::yield_now();
@@ -140,20 +140,21 @@ fn apply<R: Threads + Sync + Print>(
     Ok(())
 }
 
-// Applies the batches one after another, and prints what each did. Between two batches each reader asks.
+// Applies the batches one after another, and prints what each did. Each reader asks once before the first batch,
+// and between two batches.
 fn apply_each<R: Threads + Sync + Print>(
     rt: &R,
     service: &mut Service<'_, R>,
     pace: &Pace,
 ) -> anyhow::Result<()> {
     let readers = WATCHED.len() as u64;
-    let mut times = readers;
-    pace.wait(times)?;
+    let mut asks = readers;
+    pace.wait(asks)?;
     for items in BATCHES {
         apply(rt, service, items)?;
         pace.applied.fetch_add(1, SeqCst);
-        times = times.saturating_add(readers);
-        pace.wait(times)?;
+        asks = asks.saturating_add(readers);
+        pace.wait(asks)?;
     }
     Ok(())
 }

@@ -41,7 +41,7 @@ is_unmoved lift u = get_or lift.old u 0 == get_or lift.new u 0
 
 -- the gain of u's count, from d levels below its own on, if a neighbour goes from the level k up to l
 --
--- It is nothing if u moves.
+-- It is nothing if u moves. d is 0 for the count `own`, and 1 for `below`.
 abbrev pub gains : LiftShape → ℕ → ℕ → ℕ → ℕ → ℕ
 gains lift k l d u = cond (is_unmoved lift u && is_passed k l (get_or lift.new u 0 - d)) 1 0
 

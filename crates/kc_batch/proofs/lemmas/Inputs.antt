@@ -2,6 +2,8 @@
 
 -- the items of each batch that was read are in the ranges of the header
 pub use Rattle.kc_batch.proofs.BatchRanges.{batches_keep_ranges}
+-- what each step keeps of its place and gives of its batch holds of all batches
+pub use Rattle.kc_batch.proofs.BatchRanges.{steps_give}
 -- a new reader has the whole input to give
 pub use Rattle.kc_batch.proofs.InputLemmas.{told_input}
 -- an input with a header is that header, and the batches of what is left

@@ -28,12 +28,12 @@ StillWait before after = (v : ℕ) → get_or before v false ≡ true → get_or
 --
 -- A neighbour counts from the level below its own on. So it counts the vertex both before and after the fall, or
 -- neither.
-abbrev pub IsUntouched : ℕ → ℕ → ℕ → Type 0
-IsUntouched from to level = (level - 1 ≤ to) ⊎ (from < level - 1)
+abbrev pub KeepsCount : ℕ → ℕ → ℕ → Type 0
+KeepsCount from to level = (level - 1 ≤ to) ⊎ (from < level - 1)
 
 -- w was tested after a neighbour fell from one level to another, or needed no test
 abbrev pub IsLookedAt : Profile → GraphShape → ℕ → ℕ → List ℕ → List Bool → ℕ → Type 0
-IsLookedAt p g from to y waits w = IsUntouched from to (get_or y w 0) ⊎ WaitsOrMeets p g y waits w
+IsLookedAt p g from to y waits w = KeepsCount from to (get_or y w 0) ⊎ WaitsOrMeets p g y waits w
 
 -- each neighbour of v was looked at after v fell from a level to its own
 abbrev pub AreLookedAt : Profile → GraphShape → ℕ → ℕ → List ℕ → List Bool → Type 0

@@ -1,7 +1,10 @@
 -- Edges seen from their ends: the half-edge (v, w) puts w into the row of v.
-use Rattle.std.specs.Prelude.{ℕ, ◌+◌, ◌<◌, ◌≤◌, ◌≡◌, ◌==◌, Bool, true, false, not, ◌||◌, ◌&&◌, List, [], ◌∷◌, length, get_or, All, ◌⊎◌}
+use Rattle.std.specs.Prelude.{ℕ, ◌+◌, ◌<◌, ◌≤◌, ◌≡◌, ◌==◌, Bool, true, false, not, ◌||◌, ◌&&◌, List, [], ◌∷◌, length, get_or, All, ◌⊎◌, Result, OnOk}
+use Rattle.std.specs.Result.{is_ok}
 use Rattle.kc_graph.specs.Numbers.{has_number, RisesFrom}
 use Rattle.kc_graph.specs.Shape.{Pair, has_edge}
+use Rattle.kc_graph.specs.declared.sharing.Change.{Change}
+use Rattle.kc_graph.specs.declared.sharing.Change.TheVariants.{Give, Take}
 
 -- whether x is the second number of a pair of the list
 abbrev pub has_second : ℕ → List Pair → Bool
@@ -61,3 +64,10 @@ pub record AreTaken (first : ℕ) (old new : List (List ℕ)) (halves : List Pai
   pub sized : length new ≡ length old
   pub rise : (v : ℕ) → v < length old → RisesFrom 0 (get_or old v []) → RisesFrom 0 (get_or new v [])
   pub has : (v x : ℕ) → v < length old → has_number x (get_or new v []) ≡ not (has_edge (first + v, x) halves) && has_number x (get_or old v [])
+
+-- the rows after the half-edges came in or were taken out
+--
+-- If they come in and memory runs out, some of them came in. Taking them out never fails.
+abbrev pub AreChanged : {A E : Type 0} → Change → Result A E → ℕ → List (List ℕ) → List (List ℕ) → List Pair → Type 0
+AreChanged Give result first old new halves = OnOk result (AreGiven first old new halves) × AreGivenSome first old new halves
+AreChanged Take result first old new halves = (is_ok result ≡ true) × AreTaken first old new halves

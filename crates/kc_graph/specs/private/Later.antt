@@ -37,7 +37,7 @@ abbrev pub IsOnce : List Pair → Type 0
 IsOnce es = (e : Pair) → count_by (same_edge e) es ≤ 1
 
 -- what is known is the net effect of items that are no loops, with both lists in any order
-pub record Settles (edges : List Pair) (items : List Item) (l : Later) : Type 0 where
+pub record IsProperEffect (edges : List Pair) (items : List Item) (l : Later) : Type 0 where
   pub noted : (e : Pair) → is_noted l.touched e ≡ is_touched e items
   pub removed : (e : Pair) → has_edge e l.cleaned.removed ≡ (takes_out (deciding_item e items) && has_edge e edges)
   pub removed_once : IsOnce l.cleaned.removed
@@ -47,6 +47,6 @@ pub record Settles (edges : List Pair) (items : List Item) (l : Later) : Type 0 
   pub idle : l.cleaned.idle ≡ count_with_later (is_idle edges) items
 
 -- the same for any items, with a count of their loops
-pub record ComesTo (edges : List Pair) (items : List Item) (l : Later) : Type 0 where
+pub record IsNetEffect (edges : List Pair) (items : List Item) (l : Later) : Type 0 where
   pub loops : l.cleaned.loops ≡ count_by is_loop items
-  pub others : Settles edges (proper_items items) l
+  pub others : IsProperEffect edges (proper_items items) l

@@ -42,7 +42,7 @@ above_near step v = filter (is_above step) (neighbours_of v step.graph.edges)
 abbrev pub next_near : Crossing → ℕ → List ℕ
 next_near step v = filter (λ w. get_or step.levels.stored w 0 == step.level + 1) (neighbours_of v step.graph.edges)
 
--- each of the vertices, and behind it its level
+-- each of the vertices, followed by its level
 abbrev pub with_levels : List ℕ → List ℕ → List ℕ
 with_levels x [] = []
 with_levels x (w ∷ ws) = w ∷ get_or x w 0 ∷ with_levels x ws
@@ -64,7 +64,7 @@ meetings_on x l v k (w ∷ ws) = cond (nat_lt l k && (get_or x w 0 == k)) ((v, w
 abbrev pub meetings_of : Crossing → ℕ → ℕ → List Pair
 meetings_of step k v = meetings_on step.levels.stored step.level v k (neighbours_of v step.graph.edges)
 
--- behind the meetings that were filed are those of the vertices in the list
+-- the meetings of the vertices in the list follow those that were filed
 pub record HaveMeetings (step : Crossing) (begun : List ℕ) (old new : List (List Pair)) : Type 0 where
   pub sized : length new ≡ length old
   pub filed : (k : ℕ) → k < 65535 → get_or new k [] ≡ get_or old k [] ++ flat_map (meetings_of step k) begun

@@ -8,7 +8,7 @@ use Rattle.kc_levels.specs.Thresholds.{high, group_of, top_level}
 use Rattle.kc_levels.specs.LevelList.{IsCapped}
 use Rattle.kc_levels.specs.private.Following.{IsCopied}
 use Rattle.kc_insert.specs.declared.counted.Counted.{Counted}
-use Rattle.kc_insert.specs.Ranges.{counts_of, Cut, IsCut, IsHeld, Part, waits, Watch}
+use Rattle.kc_insert.specs.Ranges.{counts_of, Cut, IsCut, HasVertex, Part, waits, Watch}
 use Rattle.kc_insert.specs.private.Ranges.{IsSameCut}
 use Rattle.kc_insert.specs.private.Watched.{count_at}
 
@@ -19,7 +19,7 @@ pub record HasFollowed (p : Profile) (n : ℕ) (y : List ℕ) (v own : ℕ) (old
 
 -- v is a vertex of the range, on a level that there is and that has a list of waiting vertices
 pub record CanFollowOne (p : Profile) (n : ℕ) (y fresh : List ℕ) (v : ℕ) (old : Watch) (first : List (List ℕ)) : Type 0 where
-  pub held : IsHeld old v
+  pub held : HasVertex old v
   pub inside : (v < length y) × (v < length fresh)
   pub level : get_or y v 0 ≤ top_level p n
   pub room : get_or y v 0 < length first
@@ -33,12 +33,12 @@ pub record HaveFiled (p : Profile) (n : ℕ) (y fresh : List ℕ) (i : ℕ) (old
   pub later : (v : ℕ) → old.first + i ≤ v → count_at new v ≡ count_at old v
   pub buckets : length queue ≡ length first
   pub still : (k u : ℕ) → has_number u (get_or first k []) ≡ true → has_number u (get_or queue k []) ≡ true
-  pub only : (k u : ℕ) → has_number u (get_or queue k []) ≡ true → (has_number u (get_or first k []) ≡ true) ⊎ (IsHeld old u × (get_or y u 0 ≡ k))
+  pub only : (k u : ℕ) → has_number u (get_or queue k []) ≡ true → (has_number u (get_or first k []) ≡ true) ⊎ (HasVertex old u × (get_or y u 0 ≡ k))
   pub found : (u : ℕ) → old.first ≤ u → u < old.first + i → count_at old u ≢ get_or fresh u 0 → high p (group_of p n (get_or y u 0)) < get_or fresh u 0 → has_number u (get_or queue (get_or y u 0) []) ≡ true
 
 -- the range is of the vertices of the list, each of which has a level that there is
 pub record CanFollow (p : Profile) (n : ℕ) (y fresh : List ℕ) (old : Part) : Type 0 where
-  pub inside : (v : ℕ) → IsHeld old.watch v → v < length fresh
+  pub inside : (v : ℕ) → HasVertex old.watch v → v < length fresh
   pub few : length fresh ≤ 2 ^ 24
   pub levels : (length y ≡ length fresh) × (n ≡ length fresh) × IsCapped p n y
   pub room : top_level p n < length old.queue

@@ -11,7 +11,7 @@ use Rattle.kc_insert.specs.declared.scaled.Scaled.{Scaled}
 use Rattle.kc_insert.specs.declared.sweep.Sweep.{Sweep}
 use Rattle.kc_insert.specs.private.Meetings.{AreApart, IsMeeting}
 use Rattle.kc_insert.specs.private.Ranges.{AreKept, count_of}
-use Rattle.kc_insert.specs.Ranges.{Cut, IsCut, IsHeld, part_at}
+use Rattle.kc_insert.specs.Ranges.{Cut, IsCut, HasVertex, part_at}
 use Rattle.kc_insert.specs.private.Rising.{seen}
 use Rattle.kc_insert.specs.private.Sweeping.{AreCounted, HaveMoved, IsPaid, IsSweeping, LiftsArePaid, Sweeping, sweeping_of}
 
@@ -67,7 +67,7 @@ HasLimit most r = (j : ℕ) → j < length r.parts → (part_at r j).watch.most 
 
 -- Between steps the range of a rising vertex keeps its meetings. No vertices that begin and no steps are left.
 pub record AreAtRest (r : Cut) : Type 0 where
-  pub own : (j k v w : ℕ) → j < length r.parts → has_edge (v, w) (get_or (part_at r j).meetings k []) ≡ true → IsHeld (part_at r j).watch v
+  pub own : (j k v w : ℕ) → j < length r.parts → has_edge (v, w) (get_or (part_at r j).meetings k []) ≡ true → HasVertex (part_at r j).watch v
   pub begun : (j : ℕ) → j < length r.parts → (part_at r j).begun ≡ []
   pub steps : (j : ℕ) → j < length r.parts → (part_at r j).steps ≡ 0
 

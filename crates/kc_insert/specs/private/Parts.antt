@@ -9,7 +9,7 @@ use Rattle.kc_insert.specs.declared.rising.RisingLevels.{RisingLevels}
 use Rattle.kc_insert.specs.private.Crossing.{Crossing, count_above, HaveMeetings, is_above, left_at, met_by, next_near, rising_near}
 use Rattle.kc_insert.specs.private.Rising.{rises}
 use Rattle.kc_insert.specs.private.Telling.{AreDealtAnew, heard_by, times}
-use Rattle.kc_insert.specs.Ranges.{IsHeld, Part, range_of, Tell, Watch}
+use Rattle.kc_insert.specs.Ranges.{HasVertex, Part, range_of, Tell, Watch}
 use Rattle.kc_insert.specs.private.Watched.{count_at, StayWatched}
 
 -- the vertices in the list, each once, rise no more, since their counts are within the limit. Other vertices of the
@@ -38,15 +38,15 @@ pub record HaveMet (level most : ℕ) (vertices : List ℕ) (old new : Part) : T
   pub levels : length new.queue ≡ length old.queue
   pub still : (k v : ℕ) → has_number v (get_or old.queue k []) ≡ true → has_number v (get_or new.queue k []) ≡ true
   pub only : (k v : ℕ) → has_number v (get_or new.queue k []) ≡ true → (has_number v (get_or old.queue k []) ≡ true) ⊎ ((k ≡ level) × (has_number v vertices ≡ true))
-  pub noted : (v : ℕ) → IsHeld old.watch v → most < count_at new.watch v → (most < count_at old.watch v) ⊎ (has_number v (get_or new.queue level []) ≡ true)
+  pub noted : (v : ℕ) → HasVertex old.watch v → most < count_at new.watch v → (most < count_at old.watch v) ⊎ (has_number v (get_or new.queue level []) ≡ true)
 
 -- what `Range::rise` asks: the vertices and the meetings are of the graph, those that rise are of the range, and there
 -- is room
 pub record CanRise (step : Crossing) (old : Part) : Type 0 where
-  pub met : (v w : ℕ) → has_edge (v, w) (get_or old.meetings step.level []) ≡ true → (v < step.graph.vertices) × (w < step.graph.vertices) × IsHeld old.watch v
+  pub met : (v w : ℕ) → has_edge (v, w) (get_or old.meetings step.level []) ≡ true → (v < step.graph.vertices) × (w < step.graph.vertices) × HasVertex old.watch v
   pub enough : (v : ℕ) → times v (left_at step (get_or old.meetings step.level [])) ≤ count_at old.watch v
   pub coming : (v w : ℕ) → has_edge (v, w) (get_or old.meetings (step.level + 1) []) ≡ true → (v < step.graph.vertices) × (w < step.graph.vertices)
-  pub begins : (v : ℕ) → has_number v old.begun ≡ true → (v < step.graph.vertices) × IsHeld old.watch v
+  pub begins : (v : ℕ) → has_number v old.begun ≡ true → (v < step.graph.vertices) × HasVertex old.watch v
   pub few : length old.begun ≤ 2 ^ 24
   pub steps : old.steps < 2 ^ 63
   pub levels : step.level + 1 < length old.meetings
@@ -90,12 +90,12 @@ pub record HasParted (step : Crossing) (old new : Part) : Type 0 where
 -- what a range that hears asks: all lists have its place, what it hears is of its vertices, and there is room
 pub record CanHearLess (told : List Tell) (own : ℕ) (old : Part) : Type 0 where
   pub lists : All (λ (t : Tell). own < length t.lists) told
-  pub held : (v : ℕ) → has_number v (heard_by own told) ≡ true → IsHeld old.watch v
+  pub held : (v : ℕ) → has_number v (heard_by own told) ≡ true → HasVertex old.watch v
   pub enough : (v : ℕ) → times v (heard_by own told) ≤ count_at old.watch v
 
 pub record CanHearMore (told : List Tell) (own level : ℕ) (old : Part) : Type 0 where
   pub lists : All (λ (t : Tell). own < length t.lists) told
-  pub held : (v : ℕ) → has_number v (heard_by own told) ≡ true → IsHeld old.watch v
+  pub held : (v : ℕ) → has_number v (heard_by own told) ≡ true → HasVertex old.watch v
   pub small : (v : ℕ) → count_at old.watch v + times v (heard_by own told) ≤ 2 ^ 31
   pub room : level < length old.queue
 

@@ -1,16 +1,20 @@
 -- All ranges of a graph, seen as one: what each vertex counts, and the lists of all ranges one after another.
-use Rattle.std.specs.Prelude.{ℕ, ◌+◌, ◌-◌, ◌^◌, ◌≤◌, ◌<◌, ◌≡◌, ◌⊎◌, ◌&&◌, ◌||◌, not, true, false, List, [], filter, length, get_or, replicate, set}
+use Rattle.std.specs.Prelude.{ℕ, ◌+◌, ◌-◌, ◌^◌, ◌≤◌, ◌<◌, ◌≡◌, ◌⊎◌, ◌&&◌, ◌||◌, not, nat_lt, Bool, true, false, List, [], filter, length, get_or, replicate, set}
 use Rattle.std.specs.List.{flat_map}
 use Rattle.kc_graph.specs.Numbers.{has_number}
 use Rattle.kc_levels.specs.Following.{AreDistinct}
 use Rattle.kc_insert.specs.declared.rising.RisingLevels.{RisingLevels}
-use Rattle.kc_insert.specs.Ranges.{Cut, IsCut, IsHeld, Part, part_at, part_of, range_of, Tell}
+use Rattle.kc_insert.specs.Ranges.{Cut, IsCut, HasVertex, Part, part_at, part_of, range_of, Tell}
 use Rattle.kc_insert.specs.private.Rising.{all_at, rises, seen}
 use Rattle.kc_insert.specs.private.Watched.{count_at, is_few}
 
 -- how many neighbours v counts
 abbrev pub count_of : Cut → ℕ → ℕ
 count_of r v = count_at (part_of r v).watch v
+
+-- whether v counts more than `most`
+abbrev pub is_over : (ℕ → ℕ) → ℕ → ℕ → Bool
+is_over count most v = nat_lt most (count v)
 
 -- the ranges, with `count` as the count of v
 abbrev pub with_count : Cut → ℕ → ℕ → Cut
@@ -40,10 +44,10 @@ all_begun r = flat_map (λ (p : Part). p.begun) r.parts
 -- that rises and counts few is on the watch list of its range. A range keeps and watches its own vertices alone.
 pub record AreKept (levels : RisingLevels) (r : Cut) : Type 0 where
   pub began : (v : ℕ) → rises levels v ≡ true → has_number v (part_of r v).began ≡ true
-  pub own : (j v : ℕ) → j < length r.parts → has_number v (part_at r j).began ≡ true → IsHeld (part_at r j).watch v
+  pub own : (j v : ℕ) → j < length r.parts → has_number v (part_at r j).began ≡ true → HasVertex (part_at r j).watch v
   pub risen : (j v : ℕ) → j < length r.parts → has_number v (part_at r j).began ≡ true → has_number v (part_at r j).risen ≡ true
   pub few : (v : ℕ) → rises levels v ≡ true → count_of r v ≤ (part_of r v).watch.most → has_number v (part_of r v).watch.doubtful ≡ true
-  pub inside : (j v : ℕ) → j < length r.parts → has_number v (part_at r j).watch.doubtful ≡ true → IsHeld (part_at r j).watch v
+  pub inside : (j v : ℕ) → j < length r.parts → has_number v (part_at r j).watch.doubtful ≡ true → HasVertex (part_at r j).watch v
 
 -- what `Ranges::take_waiting` leaves: no vertex waits on the level
 pub record TookWaiting (level : ℕ) (old new : List Part) : Type 0 where
@@ -54,7 +58,7 @@ pub record TookWaiting (level : ℕ) (old new : List Part) : Type 0 where
 pub record CanLetStay (levels : RisingLevels) (old : List Part) : Type 0 where
   pub small : levels.level < 65535
   pub few : length (seen levels) ≤ 2 ^ 24
-  pub inside : (j v : ℕ) (d : Part) → j < length old → has_number v (get_or old j d).watch.doubtful ≡ true → (v < length (seen levels)) × IsHeld (get_or old j d).watch v
+  pub inside : (j v : ℕ) (d : Part) → j < length old → has_number v (get_or old j d).watch.doubtful ≡ true → (v < length (seen levels)) × HasVertex (get_or old j d).watch v
 
 -- what `Ranges::let_stay` leaves. The vertices that stay, each once, rise no more, since their counts are within the
 -- limits of their ranges. All others of the watch lists that still rise count more. The watch lists are empty.
@@ -64,7 +68,7 @@ pub record AllLetStay (before after : RisingLevels) (old new : List Part) : Type
   pub sized : length new ≡ length old
   pub each : (j : ℕ) (d : Part) → j < length old → get_or new j d ≡ record (get_or old j d) { watch = record (get_or old j d).watch { doubtful = [] }; stay = (get_or new j d).stay }
   pub rises_on : (v : ℕ) → rises after v ≡ (rises before v && not (has_number v (flat_map (λ (p : Part). p.stay) new)))
-  pub stays : (j v : ℕ) (d : Part) → j < length old → has_number v (get_or new j d).stay ≡ true → (rises before v ≡ true) × (count_at (get_or old j d).watch v ≤ (get_or old j d).watch.most) × IsHeld (get_or old j d).watch v
+  pub stays : (j v : ℕ) (d : Part) → j < length old → has_number v (get_or new j d).stay ≡ true → (rises before v ≡ true) × (count_at (get_or old j d).watch v ≤ (get_or old j d).watch.most) × HasVertex (get_or old j d).watch v
   pub over : (j v : ℕ) (d : Part) → j < length old → has_number v (get_or old j d).watch.doubtful ≡ true → rises after v ≡ true → (get_or old j d).watch.most < count_at (get_or old j d).watch v
   pub distinct : AreDistinct (flat_map (λ (p : Part). p.stay) new)
 
@@ -91,7 +95,7 @@ pub record LiftedOff (level : ℕ) (before after : RisingLevels) (vertices : Lis
 
 -- what `Ranges::look_anew` asks: each range keeps vertices of its own alone, and each of them has a level
 pub record CanLookAnew (levels : RisingLevels) (old : List Part) : Type 0 where
-  pub inside : (j v : ℕ) (d : Part) → j < length old → has_number v (get_or old j d).began ≡ true → (v < length (seen levels)) × IsHeld (get_or old j d).watch v
+  pub inside : (j v : ℕ) (d : Part) → j < length old → has_number v (get_or old j d).began ≡ true → (v < length (seen levels)) × HasVertex (get_or old j d).watch v
 
 -- the range, with this limit, keeps the vertices alone that rise, and watches those of them that count few
 abbrev pub looked_anew : RisingLevels → ℕ → Part → List ℕ → Part

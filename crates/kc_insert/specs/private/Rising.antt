@@ -1,4 +1,4 @@
--- Levels during a sweep, where all who rise are on the level of the sweep.
+-- Levels during a sweep. All rising vertices are on the level of the sweep.
 use Rattle.std.specs.Prelude.{ℕ, ◌==◌, cond, Bool, List, [], ◌∷◌, get_or, set, map}
 use Rattle.kc_insert.specs.declared.rising.RisingLevels.{RisingLevels}
 

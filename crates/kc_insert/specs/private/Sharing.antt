@@ -6,7 +6,7 @@ use Rattle.kc_graph.specs.Shape.{neighbours_of}
 use Rattle.kc_adj.specs.Degrees.{degrees}
 use Rattle.kc_insert.specs.private.Crossing.{Crossing, met_by, next_near, rising_near}
 use Rattle.kc_insert.specs.private.Parts.{CanPart, CanRise, HasHeardLess, HasRisen, HaveMet}
-use Rattle.kc_insert.specs.Ranges.{IsHeld, Part, range_of, Tell}
+use Rattle.kc_insert.specs.Ranges.{HasVertex, Part, range_of, Tell}
 use Rattle.kc_insert.specs.private.Telling.{in_range, times}
 use Rattle.kc_insert.specs.private.Watched.{count_at, StayWatched}
 
@@ -21,12 +21,12 @@ pub record AreTold (bits : ℕ) (is_dealt : Bool) (n : ℕ) (told : List Tell) :
 
 -- each vertex of the list is of its range, and counts at least as many as it is told
 pub record CanLessen (bits : ℕ) (told : List ℕ) (old : List Part) : Type 0 where
-  pub held : (v : ℕ) (d : Part) → has_number v told ≡ true → (range_of bits v < length old) × IsHeld (get_or old (range_of bits v) d).watch v
+  pub held : (v : ℕ) (d : Part) → has_number v told ≡ true → (range_of bits v < length old) × HasVertex (get_or old (range_of bits v) d).watch v
   pub enough : (v : ℕ) (d : Part) → has_number v told ≡ true → times v told ≤ count_at (get_or old (range_of bits v) d).watch v
 
 -- each vertex of the list is of its range, and there is room for its count and for those that wait on the level
 pub record CanMeet (bits level : ℕ) (told : List ℕ) (old : List Part) : Type 0 where
-  pub held : (v : ℕ) (d : Part) → has_number v told ≡ true → (range_of bits v < length old) × IsHeld (get_or old (range_of bits v) d).watch v
+  pub held : (v : ℕ) (d : Part) → has_number v told ≡ true → (range_of bits v < length old) × HasVertex (get_or old (range_of bits v) d).watch v
   pub small : (v : ℕ) (d : Part) → has_number v told ≡ true → count_at (get_or old (range_of bits v) d).watch v + times v told ≤ 2 ^ 31
   pub room : (j : ℕ) (d : Part) → j < length old → level < length (get_or old j d).queue
 
@@ -61,7 +61,7 @@ pub record CanRiseAll (step : Crossing) (old : List Part) (tells : List Tell) : 
   pub heard : (i : ℕ) (e : Tell) → i < length old → length (get_or tells i e).lists ≡ length old
   pub each : (i : ℕ) (d : Part) → i < length old → CanRise step (get_or old i d)
   pub lists : (i : ℕ) (d : Part) → i < length old → length (get_or old i d).tell.lists ≡ length old
-  pub held : (v : ℕ) (d : Part) → has_number v (rise_told step old) ≡ true → (range_of step.bits v < length old) × IsHeld (get_or old (range_of step.bits v) d).watch v
+  pub held : (v : ℕ) (d : Part) → has_number v (rise_told step old) ≡ true → (range_of step.bits v < length old) × HasVertex (get_or old (range_of step.bits v) d).watch v
   pub few : (v : ℕ) → times v (rise_told step old) ≤ 2 ^ 24
   pub small : (j : ℕ) (d : Part) (v : ℕ) → j < length old → count_at (get_or old j d).watch v ≤ 2 ^ 24
   pub degree : (v : ℕ) → length (neighbours_of v step.graph.edges) ≤ 2 ^ 24
@@ -86,4 +86,4 @@ pub record AllParted (step : Crossing) (old new : List Part) : Type 0 where
   pub part : (j : ℕ) (d : Part) → j < length old → get_or new j d ≡ record (get_or old j d) { watch = (get_or new j d).watch; tell = (get_or new j d).tell; steps = (get_or old j d).steps + degrees step.graph (get_or old j d).stay }
   pub lists : (j : ℕ) (d : Part) → j < length old → length (get_or new j d).tell.lists ≡ length old
   pub watched : (j : ℕ) (d : Part) → j < length old → StayWatched (get_or old j d).watch (get_or new j d).watch
-  pub less : (v : ℕ) (d : Part) → range_of step.bits v < length old → IsHeld (get_or old (range_of step.bits v) d).watch v → count_at (get_or new (range_of step.bits v) d).watch v + times v (flat_map (rising_near step) (flat_map (λ (p : Part). p.stay) old)) ≡ count_at (get_or old (range_of step.bits v) d).watch v
+  pub less : (v : ℕ) (d : Part) → range_of step.bits v < length old → HasVertex (get_or old (range_of step.bits v) d).watch v → count_at (get_or new (range_of step.bits v) d).watch v + times v (flat_map (rising_near step) (flat_map (λ (p : Part). p.stay) old)) ≡ count_at (get_or old (range_of step.bits v) d).watch v

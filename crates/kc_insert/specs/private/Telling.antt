@@ -16,7 +16,7 @@ times v (u ∷ us) = cond (u == v) 1 0 + times v us
 abbrev pub heard_by : ℕ → List Tell → List ℕ
 heard_by j told = flat_map (λ t. get_or t.lists j []) told
 
--- each range has its vertices of the list behind those that it had
+-- each range has its vertices of the list after those that it had
 pub record AreDealt (bits : ℕ) (xs : List ℕ) (old new : List (List ℕ)) : Type 0 where
   pub sized : length new ≡ length old
   pub each : (j : ℕ) → j < length old → get_or new j [] ≡ get_or old j [] ++ in_range bits j xs

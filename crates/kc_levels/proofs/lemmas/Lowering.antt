@@ -6,7 +6,5 @@ pub use Rattle.kc_levels.proofs.Lowering.{held_down}
 pub use Rattle.kc_levels.proofs.Lowering.{lowering_first}
 -- a vertex falls to its desired level
 pub use Rattle.kc_levels.proofs.Lowering.{lowering_more}
--- lowering ends where each vertex meets Lower
-pub use Rattle.kc_levels.proofs.Lowering.{lowering_done}
 -- exactly one list is lowered
 pub use Rattle.kc_levels.proofs.LoweredLaw.{lowered_is_one_list}

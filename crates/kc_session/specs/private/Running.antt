@@ -1,12 +1,15 @@
 -- The result of batches, and the text written for them, after they were run or a fault came.
-use Rattle.std.specs.Prelude.{ℕ, ◌≡◌, ◌+◌, true, false, Bool, List, Option, Some, None, Result, Ok, Err, OnOk}
+use Rattle.std.specs.Prelude.{ℕ, ◌≡◌, ◌+◌, ◌-◌, ◌^◌, ◌<◌, ◌≤◌, true, false, Bool, List, Option, Some, None, Result, Ok, Err, OnOk}
 use Rattle.kc_text.specs.Writing.{IsPrefix}
-use Rattle.kc_text.specs.Reading.{Reading}
+use Rattle.kc_text.specs.Reading.{Reading, budget}
 use Rattle.kc_graph.specs.declared.limits.TheConstants.{MAX_ITEMS}
 use Rattle.kc_levels.specs.declared.profile.Profile.{Profile}
-use Rattle.kc_batch.specs.Batches.{batches_left}
+use Rattle.kc_batch.specs.Ahead.{batches_ahead, ahead_budget}
+use Rattle.kc_batch.specs.Batches.{batches_left, IsEnd}
 use Rattle.kc_batch.specs.BatchInputs.{rules_of}
 use Rattle.kc_batch.specs.HeaderShape.{HeaderShape}
+use Rattle.kc_batch.specs.declared.ahead.Ahead.{Ahead}
+use Rattle.kc_batch.specs.declared.rules.Rules.{Rules}
 use Rattle.kc_batch.specs.declared.ask.Ask.{Ask}
 use Rattle.std.specs.Io.KnownBytes.{append_known}
 use Rattle.kc_batch.specs.declared.batch.Next.{Next}
@@ -22,6 +25,7 @@ use Rattle.kc_session.specs.declared.report.Report.{Report}
 use Rattle.kc_session.specs.declared.watched.Watched.{Watched}
 use Rattle.kc_session.specs.private.Audiences.{longer, shown_to, store_of, IsAbreast}
 use Rattle.kc_session.specs.private.Counts.{counts_of, counted}
+use Rattle.kc_session.specs.private.States.{IsBatchFor}
 use Rattle.kc_session.specs.RunText.{step_text, batch_lines}
 use Rattle.kc_session.specs.SessionText.{body_text, WritesSession}
 use Rattle.kc_session.specs.States.{Step, IsStep, AreSteps, last_state, history_of, IsOpen}
@@ -52,6 +56,24 @@ RunsStep report b s t before now old h i (Err _) = WroteSome report (old.batches
 -- what a batch did to an engine beside its audience (`RunsStep`)
 abbrev pub RunsOne : Report → Next → Watched → Watched → Option (List ℕ) → Option (List ℕ) → Counts → Result Counts SessionFault → Type 0
 RunsOne report b w x before now old result = RunsStep report b w.engine.state x.engine.state before now old (shown_to w.audience) (shown_to x.audience) result
+
+-- an engine beside its audience may take this batch, which can be counted after these counts
+pub record MayRun (w : Watched) (next : Next) (counts : Counts) : Type 0 where
+  pub abreast : IsAbreast w.audience w.engine.state
+  pub open_for : IsOpen w.engine
+  pub batch : IsBatchFor w.engine.state.graph.vertices next
+  pub some : IsEnd next → ⊥
+  pub few : counts.batches < 2 ^ 32 - 1
+  pub fewer : counts.refused ≤ counts.batches
+
+-- a batch was run by an engine beside its audience (`RunsOne`): with Ok the engine may take more of them
+--
+-- The audience looks at the same store as before.
+pub record IsRun (report : Report) (b : Next) (w x : Watched) (before now : Option (List ℕ)) (old : Counts) (result : Result Counts SessionFault) : Type 0 where
+  pub step : RunsOne report b w x before now old result
+  pub store : store_of x.audience ≡ store_of w.audience
+  pub abreast : OnOk result (IsAbreast x.audience x.engine.state)
+  pub open_for : OnOk result (IsOpen x.engine)
 
 -- no batch follows one that is refused for the input limit
 abbrev pub is_last_batch : Next → Bool
@@ -94,9 +116,19 @@ pub record AreRun (report : Report) (w x : Watched) (batches : Option (List Next
   pub ready : OnOk result (IsReadyFor w.engine.state.graph.vertices x)
   pub profile : OnOk result (x.engine.state.profile ≡ w.engine.state.profile)
 
+-- the rules of batches for a graph of n vertices
+abbrev pub rules_for : ℕ → Profile → Rules
+rules_for n profile = record { n = n; profile = profile; item_limit = MAX_ITEMS }
+
 -- the batches of the lines that a reader has still to give, for a graph of n vertices
 abbrev pub batches_for : ℕ → Profile → Reading → Option (List ℕ) → Option (List Next)
-batches_for n profile r left = batches_left (record { n = n; profile = profile; item_limit = MAX_ITEMS }) r left
+batches_for n profile r left = batches_left (rules_for n profile) r left
+
+-- the batches that a reader had still to give are those with the one read ahead, for which some of the budget was taken
+pub record IsReadAhead (rules : Rules) (old new : Reading) (a : Ahead) : Type 0 where
+  pub same_rules : a.rules ≡ rules
+  pub batches : (left : Option (List ℕ)) → batches_left rules old left ≡ batches_ahead a new left
+  pub takes : ahead_budget a new ≤ budget old
 
 -- the header of a graph of n vertices with these asks
 abbrev pub header_for : ℕ → Profile → List Ask → HeaderShape

@@ -90,9 +90,9 @@ IsMarked rest p v w = (g : ℕ) (e : Entry) (m : Move) → group_of g rest ≡ S
 abbrev pub IsNoted : List Entry → ℕ → ℕ → Type 0
 IsNoted rest v o = (g : ℕ) (e : Entry) (m : Move) → group_of g rest ≡ Some e → last_move v e.moves ≡ Some m → o ≡ m.old
 
--- each group with a move of v is published
-abbrev pub IsSettled : List Entry → ℕ → Type 0
-IsSettled rest v = (g : ℕ) (e : Entry) → group_of g rest ≡ Some e → last_move v e.moves ≡ None
+-- no group that is not published yet moves v
+abbrev pub IsUnmoved : List Entry → ℕ → Type 0
+IsUnmoved rest v = (g : ℕ) (e : Entry) → group_of g rest ≡ Some e → last_move v e.moves ≡ None
 
 abbrev pub AllNoted : ℕ → List Entry → List ℕ → List ℕ → Type 0
 AllNoted n rest ws vs = (v : ℕ) → Contains vs v → (v < n) × IsNoted rest v (slice_index ws (2 * n + 1 + v))
@@ -101,11 +101,28 @@ abbrev pub AllMarked : List Entry → ℕ → List ℕ → List ℕ → Type 0
 AllMarked rest p ws vs = (v : ℕ) → Contains vs v → IsMarked rest p v (slice_index ws (v + 1))
 
 abbrev pub AllCleared : ℕ → List Entry → List ℕ → List ℕ → Type 0
-AllCleared n rest ws vs = (v : ℕ) → Contains vs v → (v < n) × IsSettled rest v × ((unpacked (slice_index ws (v + 1))).phase ≡ 0)
+AllCleared n rest ws vs = (v : ℕ) → Contains vs v → (v < n) × IsUnmoved rest v × ((unpacked (slice_index ws (v + 1))).phase ≡ 0)
 
 -- each marked move is noted
 abbrev pub AreMarkedNoted : List ℕ → List ℕ → Type 0
 AreMarkedNoted marked noted = (v : ℕ) → Contains marked v → Contains noted v
+
+-- the words are as the writer, or a marker, left them that noted, marked and cleared the moves of these vertices
+pub record MarksHold (n : ℕ) (rest : List Entry) (p : ℕ) (ws noted marked cleared : List ℕ) : Type 0 where
+  pub notes : AllNoted n rest ws noted
+  pub marks : AllMarked rest p ws marked
+  pub marks_noted : AreMarkedNoted marked noted
+  pub clears : AllCleared n rest ws cleared
+
+-- the stamps are those of the history, and none is above the number of the open phase
+pub record StampsHold (n : ℕ) (history : List Entry) (p : ℕ) (ws : List ℕ) : Type 0 where
+  pub words : (g : ℕ) → g < n → slice_index ws (n + 1 + g) ≡ stamp_of 0 history g
+  pub below : (g : ℕ) → stamp_of 0 history g ≤ p
+
+-- the groups that are not published yet wait, and no two of them have a label or a vertex in common
+pub record RestHolds (n : ℕ) (history rest : List Entry) (p : ℕ) : Type 0 where
+  pub waiting : AllWait n p history rest
+  pub apart : AllApart rest
 
 -- the facts that hold of the words
 pub record Facts (n : ℕ) (history rest : List Entry) (p : ℕ) (ws : List ℕ) : Type 0 where
@@ -113,10 +130,8 @@ pub record Facts (n : ℕ) (history rest : List Entry) (p : ℕ) (ws : List ℕ)
   pub small : n ≤ MAX_VERTICES
   pub phase_is : slice_index ws 0 ≡ p
   pub phase_in : p ≤ MAX_PHASE
-  pub stamps : (g : ℕ) → g < n → slice_index ws (n + 1 + g) ≡ stamp_of 0 history g
-  pub below : (g : ℕ) → stamp_of 0 history g ≤ p
-  pub waiting : AllWait n p history rest
-  pub apart : AllApart rest
+  pub stamps : StampsHold n history p ws
+  pub groups : RestHolds n history rest p
   pub vertices : (v : ℕ) → v < n → Fits n history rest p v (unpacked (slice_index ws (v + 1))) (slice_index ws (2 * n + 1 + v))
   pub olds : (v : ℕ) → v < n → slice_index ws (2 * n + 1 + v) < 2 ^ 16
 
@@ -124,7 +139,7 @@ pub record Facts (n : ℕ) (history rest : List Entry) (p : ℕ) (ws : List ℕ)
 pub record IsSoundMark (n : ℕ) (history rest : List Entry) (p v w o : ℕ) : Type 0 where
   pub fits : Fits n history rest p v (unpacked w) o
   pub marked : IsMarked rest p v w
-  pub cleared : IsSettled rest v → (unpacked w).phase ≡ 0
+  pub cleared : IsUnmoved rest v → (unpacked w).phase ≡ 0
 
 -- an old level that any seat may store for v
 pub record IsSoundOld (history : List Entry) (v o : ℕ) : Type 0 where
@@ -138,13 +153,17 @@ pub record Reaches (from history : List Entry) (v l : ℕ) : Type 0 where
   pub within : IsPrefix point history
   pub level_is : level_of 0 point v ≡ l
 
--- the facts that a pass has after its first load
-pub record LookHolds (n : ℕ) (history rest : List Entry) (p : ℕ) (ws : List ℕ) (q : Pending) : Type 0 where
+-- the facts of a pass between two loads of a read
+pub record IsReading (n : ℕ) (history : List Entry) (q : Pending) : Type 0 where
   pub seen_in : IsPrefix q.seen q.from
   pub from_in : IsPrefix q.from history
   pub made_in : q.made ≤ length q.seen
   pub vertices_is : q.vertices ≡ n
   pub inside : q.vertex < n
+
+-- the facts that a pass has after its first load
+pub record LookHolds (n : ℕ) (history rest : List Entry) (p : ℕ) (ws : List ℕ) (q : Pending) : Type 0 where
+  pub reading : IsReading n history q
   pub label_in : (unpacked q.word).label < n
   pub shown : (unpacked q.word).phase ≤ stamp_of 0 history (unpacked q.word).label → Reaches q.from history q.vertex (unpacked q.word).new
   pub unpublished : stamp_of 0 history (unpacked q.word).label < (unpacked q.word).phase → IsUnpublished history rest p q.vertex (unpacked q.word) (slice_index ws (2 * n + 1 + q.vertex))
@@ -153,11 +172,7 @@ pub record LookHolds (n : ℕ) (history rest : List Entry) (p : ℕ) (ws : List 
 --
 -- The old-level word is the level of the vertex at some point since the pass's first load.
 pub record BelowHolds (n : ℕ) (history : List Entry) (ws : List ℕ) (q : Pending) : Type 0 where
-  pub seen_in : IsPrefix q.seen q.from
-  pub from_in : IsPrefix q.from history
-  pub made_in : q.made ≤ length q.seen
-  pub vertices_is : q.vertices ≡ n
-  pub inside : q.vertex < n
+  pub reading : IsReading n history q
   pub old : Reaches q.from history q.vertex (slice_index ws (2 * n + 1 + q.vertex))
 
 abbrev pub AllBegin : List Entry → List (List Entry) → Type 0
@@ -185,19 +200,20 @@ IsGrown n before history plan count =
     ((history ≡ []) × (plan ≡ empty_plan before) × (count ≡ 0))
     ⊎ ((whole : List PhasePlan) × AllFormed n before (whole ++ plan ∷ []) × (history ≡ entries_in whole ++ take (count + 1) (entries_of plan)))
 
+-- the plan of the open phase is well formed, and the vertices of its first `count` groups are on their new levels
+pub record PlanHolds (n phase : ℕ) (history : List Entry) (plan : PhasePlan) (count : ℕ) : Type 0 where
+  pub formed : IsFormed n phase plan
+  pub published_in : count ≤ length plan.groups
+  pub shown : AllShown history plan.groups count
+
 -- the facts that hold of the words and of the writer's state
 pub record WriterHolds (n : ℕ) (s : WriterState) (ws : List ℕ) : Type 0 where
   pub vertices_is : s.vertices ≡ n
   pub phases_are : s.phase ≡ s.before + phases_in s.history
   pub grown : IsGrown n s.before s.history s.plan s.published
   pub facts : Facts n s.history (rest_of s) s.phase ws
-  pub formed : IsFormed n s.phase s.plan
-  pub published_in : s.published ≤ length s.plan.groups
-  pub shown : AllShown s.history s.plan.groups s.published
-  pub notes : AllNoted n (rest_of s) ws s.noted
-  pub marks : AllMarked (rest_of s) s.phase ws s.marked
-  pub marks_noted : AreMarkedNoted s.marked s.noted
-  pub clears : AllCleared n (rest_of s) ws s.cleared
+  pub plan : PlanHolds n s.phase s.history s.plan s.published
+  pub marks : MarksHold n (rest_of s) s.phase ws s.noted s.marked s.cleared
   pub begin : AllBegin s.history s.joined
 
 -- the facts that hold of a marker that is out, if the writer has these loans, plan and number of published groups
@@ -209,10 +225,7 @@ pub record MarkerHolds (n : ℕ) (loans : List Loan) (lent phase : ℕ) (plan : 
   pub plan_is : m.plan ≡ plan
   pub early : m.loan.published ≡ false → published ≤ m.loan.group
   pub late : m.loan.published ≡ true → m.loan.group < published
-  pub notes : AllNoted n (drop published plan.groups) ws m.noted
-  pub marks : AllMarked (drop published plan.groups) phase ws m.marked
-  pub marks_noted : AreMarkedNoted m.marked m.noted
-  pub clears : AllCleared n (drop published plan.groups) ws m.cleared
+  pub marks : MarksHold n (drop published plan.groups) phase ws m.noted m.marked m.cleared
 
 -- the facts that hold of the seat j, if the writer has seat `writer` and the state s
 abbrev pub SeatHolds : ℕ → WriterState → ℕ → List ℕ → ℕ → Role → Type 0

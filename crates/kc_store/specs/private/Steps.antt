@@ -110,10 +110,11 @@ abbrev pub new_pass : Role → Role
 new_pass (Writes s) = Reads s.vertices s.history (length s.history)
 new_pass _ = Spent
 
--- the writer keeps the part of the history that a pass had seen
-abbrev pub took_in : Role → Role → Role
-took_in (Writes s) (Reads n seen made) = Writes (with_joined seen s)
-took_in v _ = v
+-- the writer takes a seat back: it keeps the part of the history that a pass had seen, and what a marker did
+abbrev pub took_back : Role → Role → Role
+took_back (Writes s) (Reads n seen made) = Writes (with_joined seen s)
+took_back (Writes s) (Marks m) = Writes (with_returned m s)
+took_back v _ = v
 
 abbrev pub lender : ℕ → ℕ → ℕ → Role → Role
 lender g from to (Writes s) = Writes (with_loan g from to s)
@@ -122,7 +123,3 @@ lender g from to v = v
 abbrev pub lent_to : ℕ → ℕ → ℕ → Role → Role
 lent_to g from to (Writes s) = Marks (marker_for g from to s)
 lent_to g from to _ = Spent
-
-abbrev pub got_back : Role → Role → Role
-got_back (Writes s) (Marks m) = Writes (with_returned m s)
-got_back v _ = v

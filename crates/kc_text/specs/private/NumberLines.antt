@@ -1,5 +1,5 @@
 -- The places of the parts of a line of two numbers.
-use Rattle.std.specs.Prelude.{ℕ, ◌+◌, ◌≡◌, ◌==◌, ◌<◌, ◌≤◌, Bool, true, false, ◌||◌, List, ◌++◌, length, take, get_or, Option, Some, None, if◌then◌else◌}
+use Rattle.std.specs.Prelude.{ℕ, ◌+◌, ◌≡◌, ◌==◌, ◌<◌, ◌≤◌, nat_lt, Bool, true, false, ◌||◌, List, ◌++◌, length, take, get_or, Option, Some, None, if◌then◌else◌}
 use Rattle.std.specs.List.{slice_range}
 use Rattle.kc_text.specs.declared.number_line.Sign.{Sign}
 use Rattle.kc_text.specs.declared.number_line.Sign.TheVariants.{Plus, Minus}
@@ -8,13 +8,24 @@ use Rattle.kc_text.specs.declared.number_line.NamedNumbers.{NamedNumbers}
 use Rattle.kc_text.specs.Lines.{without_cr}
 use Rattle.kc_text.specs.Words.{words, is_blank}
 use Rattle.kc_text.specs.Numbers.{is_digit}
-use Rattle.kc_text.specs.NumberLines.{SayNumbers, SayNamed, IsFront, IsNoNumberLine, IsNoNamedLine}
+use Rattle.kc_text.specs.NumberLines.{SayNumbers, SayNamed, IsNoNumberLine, IsNoNamedLine}
 use Rattle.kc_text.specs.private.Numbers.{DigitsTo}
 use Rattle.kc_text.specs.private.WholeLines.{EndsAt}
 
 -- the sign that a byte is, if it is one
 abbrev pub sign_of : ℕ → Option Sign
 sign_of b = if b == 43 then Some Plus else if b == 45 then Some Minus else None
+
+-- the sign that the first byte of a line is, or none, and where its numbers begin, by its second byte
+abbrev pub front_by : Option Sign → ℕ → Option (Option Sign × ℕ)
+front_by None second = Some (None, 0)
+front_by (Some sign) second = if is_blank second then Some (Some sign, 2) else None
+
+-- the sign with which a line begins, or none, and where its numbers begin
+--
+-- There is neither if a sign isn't followed by a blank, or if there are fewer than two bytes.
+unfoldable pub front_of : List ℕ → Option (Option Sign × ℕ)
+front_of bytes = if nat_lt (length bytes) 2 then None else front_by (sign_of (get_or bytes 0 0)) (get_or bytes 1 0)
 
 -- a line that begins with these bytes has the words of this front, and the rest of its words begin at `start`
 pub record BeginsAt (bytes : List ℕ) (front : List (List ℕ) → List (List ℕ)) (start : ℕ) : Type 0 where
@@ -56,12 +67,6 @@ pub record NumbersTo (bytes : List ℕ) (start first second len : ℕ) : Type 0 
   pub closes : ClosesAt bytes end len
   pub plain : (k : ℕ) → start ≤ k → k < end → is_plain (get_or bytes k 0) ≡ true
   pub says : SayNumbers (words (slice_range bytes start end)) None first second
-
--- a line that begins with these bytes has this sign, or none, and its numbers begin at `start`
-pub record FrontStands (bytes : List ℕ) (sign : Option Sign) (start : ℕ) : Type 0 where
-  pub more : 2 ≤ length bytes
-  pub front : IsFront bytes sign start
-  pub digit : is_digit (get_or bytes start 0) ≡ true
 
 -- the bytes begin with this line
 pub record IsNumberLine (bytes : List ℕ) (line : NumberLine) : Type 0 where

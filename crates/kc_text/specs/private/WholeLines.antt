@@ -1,6 +1,7 @@
 -- Lines that lie whole among bytes that were read.
 use Rattle.std.specs.Prelude.{ℕ, ◌≡◌, ◌==◌, ◌<◌, false, List, length, take, get_or}
-use Rattle.kc_text.specs.Scanning.{Scan, IsWhole}
+use Rattle.kc_text.specs.Scanning.{Scan}
+use Rattle.kc_text.specs.WholeLines.{IsWhole}
 
 -- the first line feed of these bytes stands at `len`
 pub record EndsAt (bytes : List ℕ) (len : ℕ) : Type 0 where

@@ -30,9 +30,9 @@ pub record BeginsToRefuse (said : Option BatchInput) (before now : Option (List 
 
 -- the reading of an input has begun
 --
--- A header was read, and the reader and the source have the batches after it to give. Or the header is refused. Or a
+-- A header was read, and the lines and the source have the batches after it to give. Or the header is refused. Or a
 -- fault came before that.
 abbrev pub OpensInput : Option BatchInput → Option (List ℕ) → Option (List ℕ) → Option (List ℕ) → Result (Option (HeaderShape × Reading)) SessionFault → Type 0
-OpensInput said left before now (Ok (Some (header, reader))) = (said ≡ option_map (WithBatches header) (batches_left (rules_of header MAX_ITEMS) reader left)) × (now ≡ before)
+OpensInput said left before now (Ok (Some (header, lines))) = (said ≡ option_map (WithBatches header) (batches_left (rules_of header MAX_ITEMS) lines left)) × (now ≡ before)
 OpensInput said left before now (Ok None) = RefusesHeader said before now
 OpensInput said left before now (Err _) = (now ≡ before) ⊎ BeginsToRefuse said before now

@@ -1,7 +1,7 @@
 -- The bytes that a writer passes on.
 use Rattle.std.specs.Prelude.{ℕ, ◌≡◌, Bool, true, false, List, ◌++◌, Option, Some, None}
-use Rattle.kcore.specs.declared.status.Status.{Status}
-use Rattle.kcore.specs.declared.status.Status.TheVariants.{Done, Refused, WriteFault}
+use Rattle.kc_shell.specs.declared.status.Status.{Status}
+use Rattle.kc_shell.specs.Statuses.{unflushed}
 
 -- the writer passed on a part of the bytes
 pub record HandsOnSome (all : List ℕ) (now : Option (List ℕ)) : Type 0 where
@@ -10,17 +10,11 @@ pub record HandsOnSome (all : List ℕ) (now : Option (List ℕ)) : Type 0 where
   pub all_is : all ≡ said ++ rest
   pub holds : now ≡ Some said
 
--- the writer passed on all bytes if it was flushed, if it tells the bytes that it took
+-- if the writer tells its bytes: after a flush it passed on all of them, and otherwise a part
 abbrev pub HandsOn : Bool → Option (List ℕ) → Option (List ℕ) → Type 0
 HandsOn done None now = Unit {0}
 HandsOn true (Some all) now = now ≡ Some all
 HandsOn false (Some all) now = HandsOnSome all now
-
--- the status after a failed flush of the output: a command that ran to its end has failed to write
-abbrev pub unflushed : Status → Status
-unflushed Done = WriteFault
-unflushed Refused = WriteFault
-unflushed status = status
 
 -- the status of the program
 abbrev pub last_status : Bool → Status → Status

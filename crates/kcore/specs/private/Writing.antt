@@ -4,8 +4,8 @@ use Rattle.kc_batch.specs.declared.batch.Next.{Next}
 use Rattle.kc_batch.specs.BatchInputs.{BatchInput}
 use Rattle.kc_session.specs.declared.fault.SessionFault.{SessionFault}
 use Rattle.kc_session.specs.declared.fault.SessionFault.TheVariants.{ReadFault, WriteFault, Memory}
-use Rattle.kcore.specs.declared.status.Status.{Status}
-use Rattle.kcore.specs.declared.status.Status.TheVariants as status
+use Rattle.kc_shell.specs.declared.status.Status.{Status}
+use Rattle.kc_shell.specs.declared.status.Status.TheVariants as status
 use Rattle.kcore.specs.Texts.{WritesWhole, WritesPrefix}
 
 -- with Ok a whole text was written, and the answer says whether something is refused; otherwise a prefix of a text

@@ -5,10 +5,8 @@ ghost use Rattle.kc_text.specs.Writing.{Appends, WriteCause};
 ghost use Rattle.kcore.specs.DenseLines.{size_line, member_line};
 ghost use Rattle.kcore.specs.DenseText.{IsDense};
 
-use crate::documents::Document;
+use crate::documents::{Document, LastState};
 use kc_dense::densest;
-use kc_engine::Engine;
-use kc_levels::Profile;
 use kc_report::{write_end, write_opening};
 use kc_text::{LineBuf, SendFault, Sink};
 use std::alloc::{AllocError, Global};
@@ -54,12 +52,8 @@ pub struct Dense;
 impl Document for Dense {
     ghost is_document = { IsDense };
 
-    fn write<K: Sink>(
-        alloc: Global,
-        _profile: Profile,
-        engine: &Engine,
-        sink: &mut K,
-    ) -> Result<(), SendFault> {
+    fn write<K: Sink>(alloc: Global, last: &LastState<'_>, sink: &mut K) -> Result<(), SendFault> {
+        let engine = last.engine;
         let n = engine.graph().vertices();
         let dense = densest(alloc, engine.graph())?;
         let mut buf = LineBuf::new(alloc);

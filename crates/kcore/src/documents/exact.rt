@@ -4,10 +4,9 @@ ghost use Rattle.kc_graph.specs.declared.limits.TheConstants.{MAX_EDGES};
 ghost use Rattle.kc_engine.specs.States.{IsSound};
 ghost use Rattle.kcore.specs.ExactText.{exact_vertex_text, IsExact};
 
-use crate::documents::Document;
+use crate::documents::{Document, LastState};
 use kc_bound::exact_coreness;
 use kc_engine::Engine;
-use kc_levels::Profile;
 use kc_report::{VertexLines, write_coreness, write_exact_head, write_tail};
 use kc_text::{LineBuf, SendFault, Sink};
 use std::alloc::Global;
@@ -46,12 +45,8 @@ pub struct Exact;
 impl Document for Exact {
     ghost is_document = { IsExact };
 
-    fn write<K: Sink>(
-        alloc: Global,
-        _profile: Profile,
-        engine: &Engine,
-        sink: &mut K,
-    ) -> Result<(), SendFault> {
+    fn write<K: Sink>(alloc: Global, last: &LastState<'_>, sink: &mut K) -> Result<(), SendFault> {
+        let engine = last.engine;
         let n = engine.graph().vertices();
         let corenesses = exact_coreness(alloc, engine.graph())?;
         let mut buf = LineBuf::new(alloc);

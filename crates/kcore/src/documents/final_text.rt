@@ -1,10 +1,8 @@
 //! The command `final`: the certificate of the graph and the levels after the batches of an input.
 ghost use Rattle.kcore.specs.FinalText.{IsFinal};
 
-use crate::documents::Document;
+use crate::documents::{Document, LastState};
 use kc_cert::write_certificate;
-use kc_engine::Engine;
-use kc_levels::Profile;
 use kc_text::{SendFault, Sink};
 use std::alloc::Global;
 
@@ -14,13 +12,9 @@ pub struct Final;
 impl Document for Final {
     ghost is_document = { IsFinal };
 
-    fn write<K: Sink>(
-        alloc: Global,
-        profile: Profile,
-        engine: &Engine,
-        sink: &mut K,
-    ) -> Result<(), SendFault> {
-        write_certificate(alloc, sink, profile, engine.graph(), engine.levels())
+    fn write<K: Sink>(alloc: Global, last: &LastState<'_>, sink: &mut K) -> Result<(), SendFault> {
+        let engine = last.engine;
+        write_certificate(alloc, sink, last.profile, engine.graph(), engine.levels())
     }
 
     fn has_documents() {}

@@ -8,10 +8,9 @@ ghost use Rattle.kc_orient.specs.Colouring.{IsColouring};
 ghost use Rattle.kcore.specs.OrientLines.{oriented_line};
 ghost use Rattle.kcore.specs.OrientText.{oriented_vertex_text, IsOrientedText};
 
-use crate::documents::Document;
-use kc_engine::Engine;
+use crate::documents::{Document, LastState};
 use kc_graph::Graph;
-use kc_levels::{Levels, Profile};
+use kc_levels::Levels;
 use kc_orient::{Orientation, colour};
 use kc_report::{VertexLines, write_opening, write_tail};
 use kc_text::{LineBuf, SendFault, Sink};
@@ -100,12 +99,8 @@ pub struct Orient;
 impl Document for Orient {
     ghost is_document = { IsOrientedText };
 
-    fn write<K: Sink>(
-        alloc: Global,
-        _profile: Profile,
-        engine: &Engine,
-        sink: &mut K,
-    ) -> Result<(), SendFault> {
+    fn write<K: Sink>(alloc: Global, last: &LastState<'_>, sink: &mut K) -> Result<(), SendFault> {
+        let engine = last.engine;
         let n = engine.graph().vertices();
         let (oriented, colours) = orient_and_colour(alloc, engine.graph(), engine.levels())?;
         let mut buf = LineBuf::new(alloc);

@@ -1,6 +1,6 @@
 // Reads and writes that fail.
 use super::support::{Call, WHOLE, answer, answers};
-use crate::status::Status;
+use kc_shell::Status;
 use std::process::Abort;
 use std::test::Fail;
 use std::thread::Threads;

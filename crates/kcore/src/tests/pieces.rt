@@ -1,7 +1,7 @@
 // Rounds whose pieces go to several workers.
 use super::support::{WHOLE, answer_beside, in_pieces};
-use crate::status::Status;
 use kc_rounds::{Gate, Spot};
+use kc_shell::Status;
 use std::process::Abort;
 use std::sync::atomic::Ordering::SeqCst;
 use std::sync::atomic::{AtomicBool, AtomicU64};

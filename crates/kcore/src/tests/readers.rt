@@ -1,8 +1,8 @@
 // Readers beside batches: a gate counts their questions.
 use super::faults::ASKED;
 use super::support::{Call, WHOLE, answer_beside};
-use crate::status::Status;
 use kc_rounds::{Gate, Spot};
+use kc_shell::Status;
 use std::process::Abort;
 use std::sync::atomic::AtomicU64;
 use std::sync::atomic::Ordering::SeqCst;

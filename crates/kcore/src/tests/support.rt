@@ -1,7 +1,7 @@
 // A call of the program in memory.
-use crate::status::Status;
 use crate::top::run_command;
 use kc_rounds::{Gate, OpenGate};
+use kc_shell::Status;
 use kc_text::{MemSink, MemSource, Words};
 use std::process::Abort;
 use std::thread::Threads;

@@ -1,7 +1,7 @@
 // Inputs in pieces.
 use super::support::{answers, in_pieces, words_of};
 use crate::process::program;
-use crate::status::Status;
+use kc_shell::Status;
 use std::io::BufWriter;
 use std::test::Fail;
 

@@ -4,6 +4,7 @@ use Rattle.kc_graph.specs.declared.limits.TheConstants.{MAX_EDGES, MAX_ITEMS}
 use Rattle.kc_history.specs.declared.limits.TheConstants.{MAX_PHASE}
 use Rattle.kc_engine.specs.States.{State, IsSound}
 use Rattle.kc_engine.specs.Planning.{EngineView}
+use Rattle.kserve.specs.Batches.{start}
 
 -- it takes batches: it hasn't halted, no plan waits to be shown, its edge limit is the program's, and its state is
 -- sound
@@ -12,6 +13,11 @@ pub record IsOpen (e : EngineView) : Type 0 where
   pub none_waits : e.waits ≡ false
   pub limit : e.edge_limit ≡ MAX_EDGES
   pub sound : IsSound MAX_EDGES e.state
+
+-- it is the engine before the first batch of a graph of n vertices
+pub record IsFresh (n : ℕ) (e : EngineView) : Type 0 where
+  pub open_for : IsOpen e
+  pub state : e.state ≡ start n
 
 -- there is room for a batch of `MAX_ITEMS` items and its two phases, so it isn't refused
 pub record HasRoom (s : State) : Type 0 where

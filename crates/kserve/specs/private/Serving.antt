@@ -34,12 +34,12 @@ GoesOn n number batch s t before now (Ok _) result = TakesBatch n number batch s
 GoesOn n number batch s t before now (Err stop) result = (result ≡ Err stop) × (now ≡ before)
 
 -- nothing is applied or printed: the server goes on, or stops as a write failed; once it has stopped, it stays so
-abbrev pub IsHeld : {T : Type 0} → Result T Stop → Result T Stop → Type 0
-IsHeld (Ok _) (Ok _) = Unit {0}
-IsHeld (Ok _) (Err WriteFault) = Unit {0}
-IsHeld (Ok _) (Err (Memory _)) = ⊥
-IsHeld (Ok _) (Err Stray) = ⊥
-IsHeld (Err stop) result = result ≡ Err stop
+abbrev pub IsHandedOn : {T : Type 0} → Result T Stop → Result T Stop → Type 0
+IsHandedOn (Ok _) (Ok _) = Unit {0}
+IsHandedOn (Ok _) (Err WriteFault) = Unit {0}
+IsHandedOn (Ok _) (Err (Memory _)) = ⊥
+IsHandedOn (Ok _) (Err Stray) = ⊥
+IsHandedOn (Err stop) result = result ≡ Err stop
 
 -- batches were applied to the state s, which became t, and printed
 pub record HaveServed (n : ℕ) (s : State) (batches : List (List Update)) (t : State) (before now : Option (List ℕ)) : Type 0 where

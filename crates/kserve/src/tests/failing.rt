@@ -1,6 +1,6 @@
 // Reads and writes that fail. The call ends each time, and so all threads of it have ended.
 use super::support::{Call, answer, answers, at_once, equal_scripts};
-use crate::status::ServeStatus;
+use kc_shell::Status;
 use std::process::Abort;
 use std::sync::Wait;
 use std::test::Fail;
@@ -27,14 +27,14 @@ fn has_begun<R: Threads + Wait + Sync + AllocGlobal + Abort>(
     text: &[u8],
 ) -> bool {
     let (status, sink) = answer(rt, call);
-    status == ServeStatus::WriteFault && sink.bytes().starts_with(text)
+    status == Status::WriteFault && sink.bytes().starts_with(text)
 }
 
 // Whether a call ends at each of these writes, and at one in the midst of its text.
 fn each_write_ends<R: Threads + Wait + Sync + AllocGlobal + Abort>(rt: &R, input: &[u8]) -> bool {
     for (number, text) in WRITES {
         let call = failing_write(input, *number);
-        if !answers(rt, call, ServeStatus::WriteFault, *text) {
+        if !answers(rt, call, Status::WriteFault, *text) {
             return false;
         }
     }
@@ -67,12 +67,12 @@ fn failing_read(read: u32) -> Call<'static> {
 // Whether nothing is written if one of the seven reads fails. The eighth read isn't made.
 fn nothing_is_written<R: Threads + Wait + Sync + AllocGlobal + Abort>(rt: &R) -> bool {
     for number in 1..8 {
-        if !answers(rt, failing_read(number), ServeStatus::ReadFault, b"") {
+        if !answers(rt, failing_read(number), Status::ReadFault, b"") {
             return false;
         }
     }
     let (status, _sink) = answer(rt, failing_read(8));
-    status == ServeStatus::Done
+    status == Status::Done
 }
 
 #[test]
@@ -99,7 +99,7 @@ const FIRST_READS: &[(&[u8], &[u8])] = &[
 fn each_is_refused<R: Threads + Wait + Sync + AllocGlobal + Abort>(rt: &R) -> bool {
     for (input, text) in FIRST_READS {
         let call = at_once("1", *input);
-        if !answers(rt, Call { read: 2, ..call }, ServeStatus::Refused, *text) {
+        if !answers(rt, Call { read: 2, ..call }, Status::Refused, *text) {
             return false;
         }
     }

@@ -4,8 +4,8 @@ ghost use Rattle.std.specs.Prelude.{None};
 
 use super::outputs::are_served;
 use super::support::{at_once, equal_scripts, serve_into};
-use crate::status::ServeStatus;
 use kc_rounds::{Gate, Spot};
+use kc_shell::Status;
 use kc_text::{Failed, NullSink, Sink};
 use std::process::Abort;
 use std::sync::Wait;
@@ -62,7 +62,7 @@ fn clients_run_at_once(rt: HostRuntime) -> Result<(), Fail> {
     };
     let input = b"kserve 1\nvertices 4\nbatch\n0 1\nend\nbatch\n2 3\nend\n";
     let status = serve_into(&rt, &gate, at_once("2", input), &mut NullSink::new());
-    assert!(rt; status == ServeStatus::Done);
+    assert!(rt; status == Status::Done);
     assert!(rt; gate.missed.load(SeqCst) == 0);
     Ok(())
 }
@@ -146,7 +146,7 @@ pub fn all_pass<R: Threads + Wait + Sync + AllocGlobal + Abort, G: Gate + Sync>(
     wanted: u64,
 ) -> bool {
     let mut sink = Counting { counts, wanted };
-    serve_into(rt, gate, at_once(workers, input), &mut sink) == ServeStatus::Done
+    serve_into(rt, gate, at_once(workers, input), &mut sink) == Status::Done
         && counts.missed.load(SeqCst) == 0
         && counts.asking.load(SeqCst) == updates
         && counts.printed.load(SeqCst) == updates

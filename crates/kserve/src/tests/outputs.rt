@@ -1,6 +1,6 @@
 // Clients with scripts of their own: the updates that are printed of each are its script.
 use super::support::{answer, at_once, put};
-use crate::status::ServeStatus;
+use kc_shell::Status;
 use std::process::Abort;
 use std::sync::Wait;
 use std::test::Fail;
@@ -100,7 +100,7 @@ pub fn are_served<R: Threads + Wait + Sync + AllocGlobal + Abort>(
 ) -> bool {
     let input = input_of(rt, lengths);
     let (status, sink) = answer(rt, at_once("4", input.as_slice()));
-    status == ServeStatus::Done && all_are_taken(rt, lengths, sink.bytes())
+    status == Status::Done && all_are_taken(rt, lengths, sink.bytes())
 }
 
 const EIGHT: &[usize] = &[2000; 8];

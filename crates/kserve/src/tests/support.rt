@@ -1,7 +1,7 @@
 // A call of the program in memory, and inputs.
 use crate::serve::serve;
-use crate::status::ServeStatus;
 use kc_rounds::{Gate, OpenGate};
+use kc_shell::Status;
 use kc_text::{MemSink, MemSource, Sink, Words};
 use std::process::Abort;
 use std::sync::Wait;
@@ -61,7 +61,7 @@ pub fn serve_into<R: Threads + Wait + Sync + AllocGlobal + Abort, K: Sink + Send
     gate: &G,
     call: Call<'_>,
     sink: &mut K,
-) -> ServeStatus {
+) -> Status {
     let words = words_of(rt, call.workers);
     let mut source = source_of(rt, call);
     serve(rt, rt.alloc(), &words, &mut source, sink, gate)
@@ -71,7 +71,7 @@ pub fn serve_into<R: Threads + Wait + Sync + AllocGlobal + Abort, K: Sink + Send
 pub fn answer<R: Threads + Wait + Sync + AllocGlobal + Abort>(
     rt: &R,
     call: Call<'_>,
-) -> (ServeStatus, MemSink) {
+) -> (Status, MemSink) {
     let mut sink = sink_of(rt, call);
     let status = serve_into(rt, &OpenGate::new(), call, &mut sink);
     (status, sink)
@@ -81,7 +81,7 @@ pub fn answer<R: Threads + Wait + Sync + AllocGlobal + Abort>(
 pub fn answers<R: Threads + Wait + Sync + AllocGlobal + Abort>(
     rt: &R,
     call: Call<'_>,
-    status: ServeStatus,
+    status: Status,
     text: &[u8],
 ) -> bool {
     let (got, sink) = answer(rt, call);

@@ -22,9 +22,9 @@ pub loop-i-preserved : goal.loop-i-preserved
 loop-i-preserved g c =
     let is : IsLift c.args.lift.now = rw (← c.lift.view_is) c.lift.invariant in
     let v = get_or c.args.vertices.now c.loop-i.i 0 in
-    let row = ap length c.neighbours.ensures.value ∙ ap (λ u. length (neighbours_of u c.lift.inside.graph.now.edges)) c.in_turn-v.ensures ∙ ap (λ (l : LiftShape). length (neighbours_of v l.graph.edges)) c.lift.view_is in (
-      lifting_next _ 0 c.loop-i.i _ _ _ _ _ _ is c.loop-i-test.true c.requires.vertices.inside c.loop-i.invariant.0 (rw c.in_turn-v.ensures at c.pass-own.ensures.own) (omega arith) (rw c.in_turn-v.ensures at c.pass-own.ensures.first) (rw c.in_turn-v.ensures at c.renew.ensures.own),
-      lifting_next _ 1 c.loop-i.i _ _ _ _ _ _ is c.loop-i-test.true c.requires.vertices.inside c.loop-i.invariant.1 (rw c.in_turn-v.ensures at c.pass-own.ensures.below) refl (rw c.in_turn-v.ensures at c.pass-own.ensures.second) (rw c.in_turn-v.ensures at c.renew.ensures.below),
+    let row = ap length c.neighbours.ensures.value ∙ ap (λ u. length (neighbours_of u c.lift.inside.graph.now.edges)) c.vertex_with_prefetch-v.ensures ∙ ap (λ (l : LiftShape). length (neighbours_of v l.graph.edges)) c.lift.view_is in (
+      lifting_next _ 0 c.loop-i.i _ _ _ _ _ _ is c.loop-i-test.true c.requires.vertices.inside c.loop-i.invariant.0 (rw c.vertex_with_prefetch-v.ensures at c.pass-own.ensures.own) (omega arith) (rw c.vertex_with_prefetch-v.ensures at c.pass-own.ensures.first) (rw c.vertex_with_prefetch-v.ensures at c.renew.ensures.own),
+      lifting_next _ 1 c.loop-i.i _ _ _ _ _ _ is c.loop-i-test.true c.requires.vertices.inside c.loop-i.invariant.1 (rw c.vertex_with_prefetch-v.ensures at c.pass-own.ensures.below) refl (rw c.vertex_with_prefetch-v.ensures at c.pass-own.ensures.second) (rw c.vertex_with_prefetch-v.ensures at c.renew.ensures.below),
       omega (arith, c.loop-i.invariant.2, cost_next c.args.lift.now c.args.vertices.now c.loop-i.i c.loop-i-test.true, row, c.add.ensures, c.tick.ensures),
     )
 

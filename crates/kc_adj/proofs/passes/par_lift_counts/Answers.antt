@@ -3,9 +3,9 @@ use Rattle.std.specs.Prelude.{Ok}
 use Rattle.std.proofs.lemmas.List.{length-map}
 use Rattle.std.proofs.lemmas.List.Elements.{All-drop, All-take}
 use Rattle.std.proofs.lemmas.Result.{IfOk-at_ok}
-use Rattle.kc_adj.specs.declared.passes.Turn.{Turn}
+use Rattle.kc_adj.specs.declared.passes.Visit.{Visit}
 use Rattle.kc_adj.specs.private.Lifting.{IsLift, lift_cost}
-use Rattle.kc_adj.specs.private.Passing.{turn_of}
+use Rattle.kc_adj.specs.private.Passing.{visit_of}
 use Rattle.kc_adj.proofs.LiftLemmas.{lifting_first, lifting_last, cost_last}
 use Rattle.kc_adj.proofs.PassLemmas.{pieces_cover, rest_is, rest_next}
 use Rattle.kc_adj.proofs.passes.par_lift_counts.Goals as goal
@@ -38,10 +38,10 @@ loop-piece-preserved g c =
     let is : get_or c.in_ok-found.found.items c.loop-piece.piece-index c.piece-item.result ≡ Ok c.in-Ok.passed = search rules in
     let all = IfOk-at_ok _ is given.call in
     let here : given.argument.now ≡ take c.piece_len-size.result c.loop-piece.rest.now = given.argument_is.value ∙ ap (λ (ys : List ℕ). take size ys) (sym c.loop-piece.invariant.0) in
-    let long : length c.in-Ok.passed.turns.items ≡ length (take c.piece_len-size.result c.loop-piece.rest.now) = ap (λ (ts : List Turn). length ts) all.turns ∙ length-map given.argument.now (turn_of c.args.lift.now) ∙ ap (λ (ys : List ℕ). length ys) here in
-    let next : drop (length c.in-Ok.passed.turns.items) c.loop-piece.rest.now ≡ drop ((c.loop-piece.piece-index + 1) * c.piece_len-size.result) c.args.vertices.now = rest_next size i (length c.in-Ok.passed.turns.items) vertices rest c.loop-piece.invariant.0 long in
-    let count : c.len.result ≡ length c.in-Ok.passed.turns.items = search rules in (
-      rest_is c.len.result (length c.in-Ok.passed.turns.items) rest count ∙ next,
+    let long : length c.in-Ok.passed.visits.items ≡ length (take c.piece_len-size.result c.loop-piece.rest.now) = ap (λ (ts : List Visit). length ts) all.visits ∙ length-map given.argument.now (visit_of c.args.lift.now) ∙ ap (λ (ys : List ℕ). length ys) here in
+    let next : drop (length c.in-Ok.passed.visits.items) c.loop-piece.rest.now ≡ drop ((c.loop-piece.piece-index + 1) * c.piece_len-size.result) c.args.vertices.now = rest_next size i (length c.in-Ok.passed.visits.items) vertices rest c.loop-piece.invariant.0 long in
+    let count : c.len.result ≡ length c.in-Ok.passed.visits.items = search rules in (
+      rest_is c.len.result (length c.in-Ok.passed.visits.items) rest count ∙ next,
       rw next at c.write_down.ensures.own,
       rw next at c.write_down.ensures.below,
       omega (arith, ap (lift_cost c.args.lift.now) c.loop-piece.invariant.0, ap (lift_cost c.args.lift.now) next, c.write_down.ensures.cost, c.loop-piece.invariant.3),

@@ -8,5 +8,5 @@ abbrev pub invariant-loop-i : goal.invariant-loop-i
 invariant-loop-i g l =
     IsLifting l.lift 0 (drop l.i l.vertices) l.counts.own.items
     × IsLifting l.lift 1 (drop l.i l.vertices) l.counts.below.items
-    × (l.place ≡ length (flat_map (touched_by l.lift) (take l.i (take (length l.passed.turns.items) l.vertices))))
+    × (l.place ≡ length (flat_map (touched_by l.lift) (take l.i (take (length l.passed.visits.items) l.vertices))))
     × (l.steps + lift_cost l.lift (drop l.i l.vertices) ≡ l.initial.steps + lift_cost l.lift l.vertices)

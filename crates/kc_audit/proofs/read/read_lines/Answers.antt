@@ -7,10 +7,10 @@ use Rattle.kc_audit.proofs.read.read_lines.Goals as goal
 pub returns-in-End-clause-document : goal.returns-in-End-clause-document
 returns-in-End-clause-document g c =
     let line = c.in_ok-line.line in
-    let run = c.turn_at.new.run in
+    let run = c.turn_at.new.draft.run in
     let step = rw (c.text_of-text.ensures, c.form_of-form.ensures.kind, c.in-End.is) at c.in_ok-next.ensures.step in
     accepted_here (read_from (empty_run c.args.n) (Batches first_place)) run _ _
-    (c.loop-members.invariant.same ∙ step_on (read_from c.loop-members.run c.loop-members.stage) (λ rest. Accepted run) line _ _ c.in_ok-line.ensures.line (ends c.loop-members.run c.loop-members.stage line run step))
+    (c.loop-draft.invariant.same ∙ step_on (read_from c.loop-draft.draft.run c.loop-draft.stage) (λ rest. Accepted run) line _ _ c.in_ok-line.ensures.line (ends c.loop-draft.draft.run c.loop-draft.stage line run step))
 
 pub returns-in-Stop-clause-document : goal.returns-in-Stop-clause-document
 returns-in-Stop-clause-document g c =
@@ -18,22 +18,22 @@ returns-in-Stop-clause-document g c =
     let reason = c.in-Stop.reason in
     let step = rw (c.text_of-text.ensures, c.form_of-form.ensures.kind, c.in-Stop.is) at c.in_ok-next.ensures.step in
     refused_here (read_from (empty_run c.args.n) (Batches first_place)) line reason _ _
-    (c.loop-members.invariant.same ∙ step_on (read_from c.loop-members.run c.loop-members.stage) (λ rest. Refused line.number reason) line _ _ c.in_ok-line.ensures.line (stops c.loop-members.run c.loop-members.stage line reason step))
+    (c.loop-draft.invariant.same ∙ step_on (read_from c.loop-draft.draft.run c.loop-draft.stage) (λ rest. Refused line.number reason) line _ _ c.in_ok-line.ensures.line (stops c.loop-draft.draft.run c.loop-draft.stage line reason step))
 
-pub loop-members-preserved : goal.loop-members-preserved
-loop-members-preserved g c =
+pub loop-draft-preserved : goal.loop-draft-preserved
+loop-draft-preserved g c =
     let line = c.in_ok-line.line in
-    let run = c.turn_at.new.run in
+    let run = c.turn_at.new.draft.run in
     let step = rw (c.text_of-text.ensures, c.form_of-form.ensures.kind, c.in-Go.is) at c.in_ok-next.ensures.step in
     record {
       same = rw c.give_back.ensures
-          (c.loop-members.invariant.same ∙ step_on (read_from c.loop-members.run c.loop-members.stage) (read_from run c.in-Go.next) line _ _ c.in_ok-line.ensures.line (goes_on c.loop-members.run c.loop-members.stage line run c.in-Go.next step));
-      sound = c.in_ok-next.ensures.sound c.loop-members.invariant.sound;
-      faults = c.in_ok-line.ensures.cause ∙ c.loop-members.invariant.faults;
+          (c.loop-draft.invariant.same ∙ step_on (read_from c.loop-draft.draft.run c.loop-draft.stage) (read_from run c.in-Go.next) line _ _ c.in_ok-line.ensures.line (goes_on c.loop-draft.draft.run c.loop-draft.stage line run c.in-Go.next step));
+      sound = c.in_ok-next.ensures.sound c.loop-draft.invariant.sound;
+      faults = c.in_ok-line.ensures.cause ∙ c.loop-draft.invariant.faults;
     }
 
-pub loop-members-smaller : goal.loop-members-smaller
-loop-members-smaller g c =
+pub loop-draft-smaller : goal.loop-draft-smaller
+loop-draft-smaller g c =
     let line = c.in_ok-line.line in
     let step = rw (c.text_of-text.ensures, c.form_of-form.ensures.kind, c.in-Go.is) at c.in_ok-next.ensures.step in
-    rw c.give_back.ensures ((fits_text c.loop-members.run c.loop-members.stage line.body c.turn_at.new.run c.in-Go.next step).takes _ _ c.in_ok-line.ensures.takes)
+    rw c.give_back.ensures ((fits_text c.loop-draft.draft.run c.loop-draft.stage line.body c.turn_at.new.draft.run c.in-Go.next step).takes _ _ c.in_ok-line.ensures.takes)

@@ -1,13 +1,13 @@
 use Rattle.std.proofs.Common.{[], refl, ◌∙◌, inl, inr}
 use Rattle.kc_batch.specs.private.Tokens.{onto_token}
-use Rattle.kc_batch.specs.Batches.{items_from, batch_of, with_next}
+use Rattle.kc_batch.specs.Batches.{Within, batch_from, batch_of, with_next}
 use Rattle.kc_batch.proofs.Stepping.{step_on, step_last, passed_over, batch_start, batch_end, batch_long, batch_item, batch_other, batch_limit, batch_none}
 use Rattle.kc_batch.proofs.batch.find_batch.Goals as goal
 
 pub returns-in_ok-next-in-BatchStart-clause-batch : goal.returns-in_ok-next-in-BatchStart-clause-batch
 returns-in_ok-next-in-BatchStart-clause-batch g c =
     let t = c.in_ok-token.token in
-    step_on (batch_of c.args.rules) (items_from c.args.rules []) (onto_token t) _ _ c.in_ok-token.ensures.token (batch_start c.args.rules t c.in-BatchStart.is)
+    step_on (batch_of c.args.rules) (batch_from c.args.rules (Within [])) (onto_token t) _ _ c.in_ok-token.ensures.token (batch_start c.args.rules t c.in-BatchStart.is)
     ∙ rw (c.new-begun.ensures.rules, c.new-begun.ensures.items) at c.in_ok-next-in-BatchStart.ensures.batch
 
 pub returns-in-BatchEnd-clause-batch : goal.returns-in-BatchEnd-clause-batch

@@ -1,7 +1,7 @@
 use Rattle.std.proofs.Common.{◌≡◌, ◌∙◌, true, [], ◌∷◌, sym, ap, arith, nat_le, length-append}
 use Rattle.std.proofs.lemmas.List.Elements.{All-push}
 use Rattle.std.proofs.lemmas.Bool.Decides.{nat_tests}
-use Rattle.kc_text.specs.Scanning.{whole_line}
+use Rattle.kc_text.specs.WholeLines.{whole_line}
 use Rattle.kc_batch.specs.declared.token.Token.{Token}
 use Rattle.kc_batch.specs.declared.token.Kind.TheVariants.{Item}
 use Rattle.kc_batch.specs.private.Tokens.{onto_token, item_of}

@@ -1,6 +1,6 @@
 use Rattle.std.proofs.Common.{◌∙◌, [], refl, sym, ap, arith}
 use Rattle.std.specs.Option.{option_map}
-use Rattle.kc_text.specs.Scanning.{whole_line}
+use Rattle.kc_text.specs.WholeLines.{whole_line}
 use Rattle.kc_batch.specs.declared.token.Token.{Token}
 use Rattle.kc_batch.specs.declared.token.Kind.TheVariants.{BatchStart}
 use Rattle.kc_batch.specs.private.Tokens.{onto_token}

@@ -1,5 +1,5 @@
 use Rattle.std.proofs.Common.{◌≡◌, ◌∙◌, sym, arith}
-use Rattle.kc_text.specs.Scanning.{whole_line}
+use Rattle.kc_text.specs.WholeLines.{whole_line}
 use Rattle.kc_batch.proofs.NumberLines.{number_item}
 use Rattle.kc_batch.proofs.Saying.{says, says_nothing, told_token, told_no_token}
 use Rattle.kc_batch.proofs.token.next_token.Goals as goal

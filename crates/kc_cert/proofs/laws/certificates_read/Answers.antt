@@ -4,11 +4,11 @@ use Rattle.kc_text.specs.Lines.{lines_from}
 use Rattle.kc_text.specs.Numbers.{value_from}
 use Rattle.kc_text.specs.Words.{words_from}
 use Rattle.kc_cert.specs.Documents.{read_from}
-use Rattle.kc_cert.specs.Tokens.{one_number, two_numbers, profile_in, is_version, kind_of_words, kind_of_text, tokens}
+use Rattle.kc_cert.specs.Tokens.{only_word, two_numbers, kind_of_words, kind_of_text, tokens}
 use Rattle.kc_cert.proofs.laws.certificates_read.Goals as goal
 
 pub returns : goal.returns
-unfolding low high grow least height last_group lines_from value_from words_from read_from one_number two_numbers profile_in is_version kind_of_words kind_of_text tokens
+unfolding low high grow least height last_group lines_from value_from words_from read_from only_word two_numbers kind_of_words kind_of_text tokens
 returns c = record {
   whole = refl;
   skipped = refl;

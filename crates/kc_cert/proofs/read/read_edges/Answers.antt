@@ -11,7 +11,7 @@ returns-in_err-edge-clause-edges g c =
     let t = c.in_ok-token.token in
     let n = c.args.head.n in
     let shape : GraphShape = record { vertices = n; edges = c.loop-i.graph.edges ++ c.loop-i.waiting.items } in
-    let step = edge_step c.args.head.profile shape n c.args.head.edges c.loop-i.i c.loop-i.a c.loop-i.b t.kind _ refl c.loop-i-test.true c.edge_of.ensures in
+    let step = edge_step c.args.head.profile shape n c.args.head.edges c.loop-i.i c.loop-i.low.0 c.loop-i.low.1 t.kind _ refl c.loop-i-test.true c.edge_of.ensures in
     let p = err_from_is_err_and c.from_residual-in_err-edge.result c.from_residual-in_err-edge.ensures.1 in
     rw (p.1, p.2) (answers_before _ _ _ _ (Err c.in_err-edge.field-0.0) c.loop-i.invariant.same (answers_misfit _ (after_edge c.args.head.profile shape n c.args.head.edges c.loop-i.i) t _ _ _ _ step c.in_ok-token.ensures.token c.in_err-edge.ensures.fits))
 
@@ -23,8 +23,8 @@ loop-i-preserved g c =
     let count = c.args.head.edges in
     let es = c.loop-i.graph.edges ++ c.loop-i.waiting.items in
     let i = c.loop-i.i in
-    let a = c.loop-i.a in
-    let b = c.loop-i.b in
+    let a = c.loop-i.low.0 in
+    let b = c.loop-i.low.1 in
     let e = c.in_ok-edge.edge in
     let x_is = sym c.in_ok-edge.ensures.fits ∙ c.edge_of.ensures in
     let fits = edge_fits n a b t.kind e (sym x_is) in
@@ -41,6 +41,6 @@ loop-i-preserved g c =
 
 pub returns-clause-edges : goal.returns-clause-edges
 returns-clause-edges g c =
-    let all = all_read c.args.head.profile c.let_in.new.graph c.args.head.n c.args.head.edges c.loop-i.i c.loop-i.a c.loop-i.b (c.loop-i.graph.edges ++ c.loop-i.waiting.items)
+    let all = all_read c.args.head.profile c.let_in.new.graph c.args.head.n c.args.head.edges c.loop-i.i c.loop-i.low.0 c.loop-i.low.1 (c.loop-i.graph.edges ++ c.loop-i.waiting.items)
     (c.in_ok-let_in.ensures.vertices ∙ c.loop-i.invariant.vertices) c.in_ok-let_in.ensures.edges (omega (arith, c.loop-i-test.false)) in
     (rw all at c.loop-i.invariant.same) ∙ all_edges_read _ _ _ _ _

@@ -1,4 +1,4 @@
-use Rattle.kc_text.specs.Scanning.{whole_line}
+use Rattle.kc_text.specs.WholeLines.{whole_line}
 use Rattle.kc_cert.proofs.NamedLines.{says_edge, says_level}
 use Rattle.kc_cert.proofs.Saying.{told_token, told_kept_token}
 use Rattle.kc_cert.proofs.token.next_token.Goals as goal

@@ -1,6 +1,6 @@
 use Rattle.std.proofs.Common.{◌≡◌, drop, length, subst, arith}
 use Rattle.std.proofs.lemmas.List.{drop_all, length-drop}
-use Rattle.kc_graph.specs.private.Later.{ComesTo}
+use Rattle.kc_graph.specs.private.Later.{IsNetEffect}
 use Rattle.kc_graph.proofs.LaterLemmas.{counts_few}
 use Rattle.kc_graph.proofs.later.walk_back.Goals as goal
 
@@ -23,4 +23,4 @@ take-requires-clause-idle_room c =
 pub returns : goal.returns
 returns c =
     let first : c.loop-place.place ≡ 0 = omega (arith, c.loop-place-test.false) in
-    subst (λ p. ComesTo c.args.graph.now.edges (drop p c.args.items.now) c.loop-place.later) first c.loop-place.invariant.comes
+    subst (λ p. IsNetEffect c.args.graph.now.edges (drop p c.args.items.now) c.loop-place.later) first c.loop-place.invariant.comes

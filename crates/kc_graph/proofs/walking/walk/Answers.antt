@@ -16,8 +16,8 @@ loop-key-init c = record {
   idle = rw c.of_loops-cleaned.ensures (omega (arith, c.requires.few));
 }
 
-pub is_last_in_turn-requires : goal.is_last_in_turn-requires
-is_last_in_turn-requires c = c.requires.fits
+pub ends_pair_with_prefetch-requires : goal.ends_pair_with_prefetch-requires
+ends_pair_with_prefetch-requires c = c.requires.fits
 
 pub unpacked-requires-clause-below : goal.unpacked-requires-clause-below
 unpacked-requires-clause-below c =
@@ -50,7 +50,7 @@ loop-key-preserved-in_ok-decide c =
     let counts = decided_counts edges key before c.decide.new.self here in
     record {
       known =
-          walked_decided edges rest later key before c.decide.new.self first c.if-is_last_in_turn.ensures here
+          walked_decided edges rest later key before c.decide.new.self first c.if-ends_pair_with_prefetch.ensures here
           ∙ c.loop-key.invariant.known;
       inside = later_inside c.args.graph.now.vertices rest later key first c.loop-key.invariant.inside;
       repeats = omega (arith, counts.0, c.in-Some.ensures.cases.1, c.loop-key.invariant.repeats);
@@ -68,7 +68,7 @@ loop-key-preserved c =
     let first : rest ≡ key ∷ later = ap (map of_number) c.in-Some.ensures.cases.0 in
     record {
       known =
-          walked_repeated edges rest later key before first c.if-is_last_in_turn.ensures
+          walked_repeated edges rest later key before first c.if-ends_pair_with_prefetch.ensures
           ∙ c.loop-key.invariant.known;
       inside = later_inside c.args.graph.now.vertices rest later key first c.loop-key.invariant.inside;
       repeats = omega (arith, c.in-Some.ensures.cases.1, c.loop-key.invariant.repeats);

@@ -9,7 +9,7 @@ use Rattle.kc_groups.proofs.linking.find_links.Goals as goal
 use Rattle.kc_groups.proofs.linking.find_links.Goals.{then-other-place+in_ok-push, else-other-place}
 
 pub neighbours-w-items-requires : goal.neighbours-w-items-requires
-neighbours-w-items-requires c = omega (arith, c.vertex_in_turn-v.ensures, vertex_at c.args.moves.now c.args.place c.requires.inside, vertex_inside c.args.graph.now.vertices c.args.moves.now c.args.place c.requires.numbered.below c.requires.inside)
+neighbours-w-items-requires c = omega (arith, c.prefetched_vertex-v.ensures, vertex_at c.args.moves.now c.args.place c.requires.inside, vertex_inside c.args.graph.now.vertices c.args.moves.now c.args.place c.requires.numbered.below c.requires.inside)
 
 pub loop-w-init : goal.loop-w-init
 loop-w-init c before l = found_first before (vertices c.args.moves.now) c.args.place c.neighbours-w-items.result.now c.args.links.now.items l
@@ -28,7 +28,7 @@ loop-w-preserved c before l =
     let h : c.args.place < length (vertices c.args.moves.now) = omega (arith, many c.args.moves.now, c.requires.inside) in
     let inside : c.loop-w.w-index < length c.neighbours-w-items.result.now = omega arith in
     let below : get_or c.neighbours-w-items.result.now c.loop-w.w-index 0 < c.args.graph.now.vertices = c.neighbours-w-items.ensures.below c.loop-w.w-index 0 inside in
-    let is : c.place_below-other.result ≡ place_below (vertices c.args.moves.now) c.args.places.now c.args.place (get_or c.neighbours-w-items.result.now c.loop-w.w-index 0) = c.place_below-other.ensures ∙ ap (λ u. cond (ltb (get_or items c.loop-w.w-index 0) u) (get_or places (get_or items c.loop-w.w-index 0) 0) place) c.vertex_in_turn-v.ensures in
+    let is : c.place_below-other.result ≡ place_below (vertices c.args.moves.now) c.args.places.now c.args.place (get_or c.neighbours-w-items.result.now c.loop-w.w-index 0) = c.place_below-other.ensures ∙ ap (λ u. cond (ltb (get_or items c.loop-w.w-index 0) u) (get_or places (get_or items c.loop-w.w-index 0) 0) place) c.prefetched_vertex-v.ensures in
     elim c.if-other-place.branch [
       | then-other-place+in_ok-push w ↦
           let at = is_below before vs place items n places c.requires.numbered few h k inside below (rw (sym is) w.if-other-place.true) in
@@ -42,5 +42,5 @@ pub returns : goal.returns
 returns c before l =
     let ms = c.args.moves.now in
     let vs = vertices c.args.moves.now in
-    let is : c.neighbours-w-items.result.now ≡ neighbours_of (get_or (vertices c.args.moves.now) c.args.place 0) c.args.graph.now.edges = c.neighbours-w-items.ensures.value ∙ ap (λ v. neighbours_of v c.args.graph.now.edges) c.vertex_in_turn-v.ensures in
+    let is : c.neighbours-w-items.result.now ≡ neighbours_of (get_or (vertices c.args.moves.now) c.args.place 0) c.args.graph.now.edges = c.neighbours-w-items.ensures.value ∙ ap (λ v. neighbours_of v c.args.graph.now.edges) c.prefetched_vertex-v.ensures in
     rw (many ms) at (found_last before vs c.args.place c.neighbours-w-items.result.now c.loop-w.links.items c.args.graph.now c.loop-w.w-index (omega arith) is (c.loop-w.invariant before (rw (many ms) l)))

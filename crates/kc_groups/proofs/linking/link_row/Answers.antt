@@ -9,7 +9,7 @@ use Rattle.kc_groups.proofs.linking.link_row.Goals as goal
 use Rattle.kc_groups.proofs.linking.link_row.Goals.{then-other-place, else-other-place}
 
 pub neighbours-w-items-requires : goal.neighbours-w-items-requires
-neighbours-w-items-requires c = omega (arith, c.vertex_in_turn-v.ensures, vertex_at c.args.moves.now c.args.place c.requires.inside, vertex_inside c.args.graph.now.vertices c.args.moves.now c.args.place c.requires.numbered.below c.requires.inside)
+neighbours-w-items-requires c = omega (arith, c.prefetched_vertex-v.ensures, vertex_at c.args.moves.now c.args.place c.requires.inside, vertex_inside c.args.graph.now.vertices c.args.moves.now c.args.place c.requires.numbered.below c.requires.inside)
 
 pub loop-w-init : goal.loop-w-init
 loop-w-init c = (
@@ -38,7 +38,7 @@ loop-w-preserved c =
     let inside : c.loop-w.w-index < length c.neighbours-w-items.result.now = omega arith in
     let below : get_or c.neighbours-w-items.result.now c.loop-w.w-index 0 < c.args.graph.now.vertices = c.neighbours-w-items.ensures.below c.loop-w.w-index 0 inside in
     let other = c.place_below-other.result in
-    let is : c.place_below-other.result ≡ place_below (vertices c.args.moves.now) c.args.places.now c.args.place (get_or c.neighbours-w-items.result.now c.loop-w.w-index 0) = c.place_below-other.ensures ∙ ap (λ u. cond (ltb (get_or items c.loop-w.w-index 0) u) (get_or places (get_or items c.loop-w.w-index 0) 0) place) c.vertex_in_turn-v.ensures in
+    let is : c.place_below-other.result ≡ place_below (vertices c.args.moves.now) c.args.places.now c.args.place (get_or c.neighbours-w-items.result.now c.loop-w.w-index 0) = c.place_below-other.ensures ∙ ap (λ u. cond (ltb (get_or items c.loop-w.w-index 0) u) (get_or places (get_or items c.loop-w.w-index 0) 0) place) c.prefetched_vertex-v.ensures in
     elim c.if-other-place.branch [
       | then-other-place w ↦
           let at = is_below (λ i j. false) vs place items n places c.requires.numbered few h c.loop-w.w-index inside below (rw (sym is) w.if-other-place.true) in
@@ -62,5 +62,5 @@ pub returns : goal.returns
 returns c before g =
     let ms = c.args.moves.now in
     let vs = vertices c.args.moves.now in
-    let is : c.neighbours-w-items.result.now ≡ neighbours_of (get_or (vertices c.args.moves.now) c.args.place 0) c.args.graph.now.edges = c.neighbours-w-items.ensures.value ∙ ap (λ v. neighbours_of v c.args.graph.now.edges) c.vertex_in_turn-v.ensures in
+    let is : c.neighbours-w-items.result.now ≡ neighbours_of (get_or (vertices c.args.moves.now) c.args.place 0) c.args.graph.now.edges = c.neighbours-w-items.ensures.value ∙ ap (λ v. neighbours_of v c.args.graph.now.edges) c.prefetched_vertex-v.ensures in
     rw (many ms) at (row_last before vs c.args.place c.neighbours-w-items.result.now c.loop-w.parents.items c.args.graph.now c.loop-w.w-index (omega arith) is (c.loop-w.invariant.2 before (rw (many ms) g)))

@@ -1,4 +1,4 @@
-use Rattle.std.proofs.Common.{◌≡◌, [], length, ap, sym, ◌∙◌, arith}
+use Rattle.std.proofs.Common.{[], ap, sym, ◌∙◌, arith}
 use Rattle.kc_groups.specs.Gathering.{clean, AreInOrder}
 use Rattle.kc_groups.specs.private.Gathering.{is_mover}
 use Rattle.kc_groups.specs.Links.{AreLabels}
@@ -58,14 +58,14 @@ deal_edges-requires-clause-empty c =
     let order : AreInOrder c.requires.labelled.0.vertices c.as_slice-moves.result.now = rw (c.as_slice-moves.ensures, sym is.are.sized) c.requires.order in
     no_edges g [] ms is.graph order tt labels labels are c.args.phase.now.number c.args.phase.now.add c.open_groups.new.places.items c.open_groups.new.entries.items c.in_ok-open_groups.ensures.entries c.in_ok-open_groups.ensures.places c.deal_moves.new.entries.items (rw (c.deref.ensures.value) at c.in_ok-deal_moves.ensures)
 
-pub clear-requires-clause-few : goal.clear-requires-clause-few
-clear-requires-clause-few c = omega (arith, c.in_ok-open_groups.ensures.places.sized, c.requires.small)
+pub reset-requires-clause-few : goal.reset-requires-clause-few
+reset-requires-clause-few c = omega (arith, c.in_ok-open_groups.ensures.places.sized, c.requires.small)
 
-pub clear-requires-clause-order : goal.clear-requires-clause-order
-clear-requires-clause-order c = rw (c.in_ok-open_groups.ensures.places.sized, c.as_slice-moves.ensures) c.requires.order
+pub reset-requires-clause-order : goal.reset-requires-clause-order
+reset-requires-clause-order c = rw (c.in_ok-open_groups.ensures.places.sized, c.as_slice-moves.ensures) c.requires.order
 
-pub clear-requires-clause-none : goal.clear-requires-clause-none
-clear-requires-clause-none c =
+pub reset-requires-clause-none : goal.reset-requires-clause-none
+reset-requires-clause-none c =
     let g = c.requires.labelled.0 in
     let is = c.requires.labelled.1 in
     let ms = c.as_slice-moves.result.now in
@@ -75,7 +75,7 @@ clear-requires-clause-none c =
     none_else g [] ms is.graph order tt labels labels are c.args.phase.now.number c.args.phase.now.add c.open_groups.new.places.items c.open_groups.new.entries.items c.in_ok-open_groups.ensures.entries c.in_ok-open_groups.ensures.places
 
 pub returns-clause-clean : goal.returns-clause-clean
-returns-clause-clean c = c.clear.ensures ∙ ap clean c.in_ok-open_groups.ensures.places.sized
+returns-clause-clean c = c.reset.ensures ∙ ap clean c.in_ok-open_groups.ensures.places.sized
 
 pub returns-clause-entries : goal.returns-clause-entries
 returns-clause-entries c g is =

@@ -1,7 +1,7 @@
 use Rattle.std.proofs.Common.{get_or, length, set, ap, sym, subst, ◌∙◌, arith}
+use Rattle.std.proofs.lemmas.List.{get_or_default}
 use Rattle.kc_insert.specs.private.Filed.{HasFollowed}
-use Rattle.kc_insert.specs.Ranges.{Cut, IsHeld, no_part, Part, range_of}
-use Rattle.kc_insert.proofs.Direct.{any_default}
+use Rattle.kc_insert.specs.Ranges.{Cut, HasVertex, no_part, Part, range_of}
 use Rattle.kc_insert.proofs.Filled.{end_filed}
 use Rattle.kc_insert.proofs.filing.file_end.Goals as goal
 
@@ -10,10 +10,10 @@ follow_count-requires c =
     let d = c.index_mut-range.result.now in
     let here = c.range.view_is ∙ c.index_mut-range.ensures.value ∙ ap (λ k. get_or c.ranges-2.inside.items.items k c.index_mut-range.result.now) c.range_of.ensures ∙ ap (λ (r : Cut). get_or r.parts (range_of r.bits c.args.v) c.index_mut-range.result.now) c.ranges-2.view_is in
     let it = c.requires.can.cut.vertex c.args.v c.requires.vertex in
-    let long = ap (λ (p : Part). length p.queue) (here ∙ any_default c.args.ranges.now.parts (range_of c.args.ranges.now.bits c.args.v) d no_part it.place) in
+    let long = ap (λ (p : Part). length p.queue) (here ∙ get_or_default c.args.ranges.now.parts (range_of c.args.ranges.now.bits c.args.v) d no_part it.place) in
     let level = c.requires.can.levels.2 c.args.v (omega (arith, c.requires.vertex, c.requires.can.levels.1)) in
     record {
-      held = subst (λ (p : Part). IsHeld p.watch c.args.v) (sym (here ∙ any_default c.args.ranges.now.parts (range_of c.args.ranges.now.bits c.args.v) d no_part it.place)) it.held;
+      held = subst (λ (p : Part). HasVertex p.watch c.args.v) (sym (here ∙ get_or_default c.args.ranges.now.parts (range_of c.args.ranges.now.bits c.args.v) d no_part it.place)) it.held;
       inside = (omega (arith, c.requires.vertex, c.requires.can.levels.0), c.requires.vertex);
       level = level;
       room = omega (arith, long, level, c.requires.can.cut.queues (range_of c.args.ranges.now.bits c.args.v) it.place);

@@ -1,6 +1,6 @@
 use Rattle.std.proofs.Common.{◌+◌, ◌-◌, ◌*◌, ◌≤◌, drop, take, length}
 use Rattle.kc_insert.specs.private.Crossing.{count_above, is_above}
-use Rattle.kc_insert.proofs.Looking.{IsLookingUp}
+use Rattle.kc_insert.proofs.Rows.{IsLookingUp}
 use Rattle.kc_insert.proofs.passes.above_of.Given as goal
 
 abbrev pub invariant-loop-w : goal.invariant-loop-w

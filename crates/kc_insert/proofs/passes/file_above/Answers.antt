@@ -1,7 +1,7 @@
 use Rattle.std.proofs.Common.{◌≡◌, ◌+◌, ◌++◌, ◌∷◌, [], length, ap, sym, ◌∙◌, arith}
 use Rattle.kc_insert.specs.private.Crossing.{Crossing, above_near}
 use Rattle.kc_insert.proofs.Beginning.{beginning_first, beginning_next, beginning_over, begun_filed, begun_telling, is_found}
-use Rattle.kc_insert.proofs.Looking.{length-with_levels}
+use Rattle.kc_insert.proofs.Rows.{length-with_levels}
 use Rattle.kc_insert.proofs.passes.file_above.Goals.{then-stood-next+in_ok-tell, else-stood-next}
 use Rattle.kc_insert.proofs.passes.file_above.Goals as goal
 

@@ -7,10 +7,9 @@ use Rattle.kc_graph.proofs.lemmas.Numbers.{has_number_at}
 use Rattle.kc_levels.specs.declared.profile.Profile.{Profile}
 use Rattle.kc_levels.specs.Thresholds.{group_of, high, top_level}
 use Rattle.kc_insert.specs.private.LevelStep.{HasLimit, IsLevelStep}
-use Rattle.kc_insert.specs.private.Ranges.{count_of}
+use Rattle.kc_insert.specs.private.Ranges.{count_of, is_over}
 use Rattle.kc_insert.specs.Ranges.{Cut, waits}
 use Rattle.kc_insert.specs.private.Rising.{seen}
-use Rattle.kc_insert.specs.private.Round.{is_over}
 use Rattle.kc_insert.specs.private.Sharing.{AllParted, AllRisen, CanPartAll, CanRiseAll}
 use Rattle.kc_insert.specs.private.Sweeping.{IsPaid, sweeping_of}
 use Rattle.kc_insert.proofs.RoundCalls.{call_lift, call_meetings, call_movers, call_part, call_rise, call_rise_step, call_stay, call_steps, next_order, next_paid, next_step, next_sweeping}
@@ -30,9 +29,6 @@ begin_from count most asked taken waiting starting given e f a b = e ∙ f ∙ a
 
 step_from : (p : Profile) (n level most group : ℕ) (g : GraphShape) (y z : List ℕ) (c d : ℕ → ℕ) → most ≡ high p group → group ≡ group_of p n level → IsLevelStep g y z c d level most → IsLevelStep g y z c d level (high p (group_of p n level))
 step_from p n level most group g y z c d e f step = subst (λ m. IsLevelStep g y z c d level m) (e ∙ ap (high p) f) step
-
-same_bits : (a b c d : ℕ) → d ≡ c → c ≡ b → a ≡ b → a ≡ d
-same_bits a b c d e f is = is ∙ sym f ∙ sym e
 
 pub movers-requires-after_bounds : goal.movers-requires-after_bounds
 movers-requires-after_bounds g c κs within = λ i d at.
@@ -58,8 +54,8 @@ part-requires-clause-ready g c κs within =
     let room : c.args.sweep.now.levels.level < top_level c.args.scaled.th.now.profile c.args.scaled.graph.now.vertices = subst (λ n. c.args.sweep.now.levels.level < top_level c.args.scaled.th.now.profile n) c.args.scaled.scale c.requires.room in
     let tops : top_level c.args.scaled.th.now.profile c.args.scaled.graph.now.vertices < 65535 = subst (λ n. top_level c.args.scaled.th.now.profile n < 65535) c.args.scaled.scale c.group.ensures.small in
     let movers : c.in_ok-starting.starting.items ≡ filter (is_over (count_of c.take_waiting.new.self) c.high-most.result) (waits c.args.sweep.now.ranges c.args.sweep.now.levels.level) = begin_from (count_of c.take_waiting.new.self) c.high-most.result c.deref.result.now c.in_ok-waiting.waiting.items (waits c.args.sweep.now.ranges c.args.sweep.now.levels.level) c.in_ok-starting.starting.items c.in_ok-starting.starting.items refl c.in_ok-starting.ensures c.deref.ensures.value c.in_ok-waiting.ensures.waiting in
-    let bits : c.ranges-2.inside.layout.bits ≡ c.let_stay.new.self.bits = ap (λ (r : Cut). r.bits) c.ranges-2.view_is in
-    subst (λ b. CanPartAll (step_at c.args.scaled.graph.now c.let_stay.new.levels b c.args.sweep.now.levels.level c.is_dealt-is_dealt.result) c.let_stay.new.self.parts c.let_stay.new.self.told) (sym bits) (call_part c.args.scaled.th.now.profile c.args.scaled.graph.now c.requires.running.start c.args.sweep.now.levels c.args.sweep.now.ranges c.high-most.result c.requires.running.order limit c.requires.running.sweeping most_is c.vertices-n.ensures.graph c.vertices-n.ensures.small room tops c.take_waiting.new.self c.in_ok-waiting.ensures.took c.in_ok-waiting.ensures.same c.in_ok-starting.starting.items movers c.let_stay.new.levels c.let_stay.new.self c.in_ok-staying.ensures.stay c.in_ok-staying.ensures.same c.is_dealt-is_dealt.result)
+    let parting : c.new-parting.result ≡ step_at c.args.scaled.graph.now c.let_stay.new.levels c.let_stay.new.self.bits c.args.sweep.now.levels.level c.sharing-sharing.result.is_dealt = c.new-parting.ensures ∙ ap (λ b. step_at c.args.scaled.graph.now c.let_stay.new.levels b c.args.sweep.now.levels.level c.sharing-sharing.result.is_dealt) c.sharing-sharing.ensures in
+    subst (λ k. CanPartAll k c.let_stay.new.self.parts c.let_stay.new.self.told) (sym parting) (call_part c.args.scaled.th.now.profile c.args.scaled.graph.now c.requires.running.start c.args.sweep.now.levels c.args.sweep.now.ranges c.high-most.result c.requires.running.order limit c.requires.running.sweeping most_is c.vertices-n.ensures.graph c.vertices-n.ensures.small room tops c.take_waiting.new.self c.in_ok-waiting.ensures.took c.in_ok-waiting.ensures.same c.in_ok-starting.starting.items movers c.let_stay.new.levels c.let_stay.new.self c.in_ok-staying.ensures.stay c.in_ok-staying.ensures.same c.sharing-sharing.result.is_dealt)
 
 pub lift_off-requires : goal.lift_off-requires
 lift_off-requires g c =
@@ -68,9 +64,9 @@ lift_off-requires g c =
     let room : c.args.sweep.now.levels.level < top_level c.args.scaled.th.now.profile c.args.scaled.graph.now.vertices = subst (λ n. c.args.sweep.now.levels.level < top_level c.args.scaled.th.now.profile n) c.args.scaled.scale c.requires.room in
     let tops : top_level c.args.scaled.th.now.profile c.args.scaled.graph.now.vertices < 65535 = subst (λ n. top_level c.args.scaled.th.now.profile n < 65535) c.args.scaled.scale c.group.ensures.small in
     let movers : c.deref-2.result.now ≡ filter (is_over (count_of c.take_waiting.new.self) c.high-most.result) (waits c.args.sweep.now.ranges c.args.sweep.now.levels.level) = begin_from (count_of c.take_waiting.new.self) c.high-most.result c.deref.result.now c.in_ok-waiting.waiting.items (waits c.args.sweep.now.ranges c.args.sweep.now.levels.level) c.in_ok-starting.starting.items c.deref-2.result.now c.deref-2.ensures.value c.in_ok-starting.ensures c.deref.ensures.value c.in_ok-waiting.ensures.waiting in
-    let bits : c.ranges-2.inside.layout.bits ≡ c.let_stay.new.self.bits = ap (λ (r : Cut). r.bits) c.ranges-2.view_is in
-    let parted : AllParted (step_at c.args.scaled.graph.now c.let_stay.new.levels c.let_stay.new.self.bits c.args.sweep.now.levels.level c.is_dealt-is_dealt.result) c.let_stay.new.self.parts c.part.new.self.parts = subst (λ b. AllParted (step_at c.args.scaled.graph.now c.let_stay.new.levels b c.args.sweep.now.levels.level c.is_dealt-is_dealt.result) c.let_stay.new.self.parts c.part.new.self.parts) bits c.in_ok-part.ensures.parted in
-    call_lift c.args.scaled.th.now.profile c.args.scaled.graph.now c.requires.running.start c.args.sweep.now.levels c.args.sweep.now.ranges c.high-most.result c.requires.running.order limit c.requires.running.sweeping most_is c.vertices-n.ensures.graph c.vertices-n.ensures.small room tops c.take_waiting.new.self c.in_ok-waiting.ensures.took c.in_ok-waiting.ensures.same c.deref-2.result.now movers c.let_stay.new.levels c.let_stay.new.self c.in_ok-staying.ensures.stay c.in_ok-staying.ensures.same c.is_dealt-is_dealt.result c.part.new.self parted c.in_ok-part.ensures.told c.in_ok-part.ensures.same c.go_to.new.self c.go_to.ensures.level c.go_to.ensures.seen c.go_to.ensures.rises
+    let parting : c.new-parting.result ≡ step_at c.args.scaled.graph.now c.let_stay.new.levels c.let_stay.new.self.bits c.args.sweep.now.levels.level c.sharing-sharing.result.is_dealt = c.new-parting.ensures ∙ ap (λ b. step_at c.args.scaled.graph.now c.let_stay.new.levels b c.args.sweep.now.levels.level c.sharing-sharing.result.is_dealt) c.sharing-sharing.ensures in
+    let parted : AllParted (step_at c.args.scaled.graph.now c.let_stay.new.levels c.let_stay.new.self.bits c.args.sweep.now.levels.level c.sharing-sharing.result.is_dealt) c.let_stay.new.self.parts c.part.new.self.parts = subst (λ k. AllParted k c.let_stay.new.self.parts c.part.new.self.parts) parting c.in_ok-part.ensures.parted in
+    call_lift c.args.scaled.th.now.profile c.args.scaled.graph.now c.requires.running.start c.args.sweep.now.levels c.args.sweep.now.ranges c.high-most.result c.requires.running.order limit c.requires.running.sweeping most_is c.vertices-n.ensures.graph c.vertices-n.ensures.small room tops c.take_waiting.new.self c.in_ok-waiting.ensures.took c.in_ok-waiting.ensures.same c.deref-2.result.now movers c.let_stay.new.levels c.let_stay.new.self c.in_ok-staying.ensures.stay c.in_ok-staying.ensures.same c.sharing-sharing.result.is_dealt c.part.new.self parted c.in_ok-part.ensures.told c.in_ok-part.ensures.same c.go_to.new.self c.go_to.ensures.level c.go_to.ensures.seen c.go_to.ensures.rises
 
 pub meeting_count-requires : goal.meeting_count-requires
 meeting_count-requires g c =
@@ -79,9 +75,9 @@ meeting_count-requires g c =
     let room : c.args.sweep.now.levels.level < top_level c.args.scaled.th.now.profile c.args.scaled.graph.now.vertices = subst (λ n. c.args.sweep.now.levels.level < top_level c.args.scaled.th.now.profile n) c.args.scaled.scale c.requires.room in
     let tops : top_level c.args.scaled.th.now.profile c.args.scaled.graph.now.vertices < 65535 = subst (λ n. top_level c.args.scaled.th.now.profile n < 65535) c.args.scaled.scale c.group.ensures.small in
     let movers : c.deref-2.result.now ≡ filter (is_over (count_of c.take_waiting.new.self) c.high-most.result) (waits c.args.sweep.now.ranges c.args.sweep.now.levels.level) = begin_from (count_of c.take_waiting.new.self) c.high-most.result c.deref.result.now c.in_ok-waiting.waiting.items (waits c.args.sweep.now.ranges c.args.sweep.now.levels.level) c.in_ok-starting.starting.items c.deref-2.result.now c.deref-2.ensures.value c.in_ok-starting.ensures c.deref.ensures.value c.in_ok-waiting.ensures.waiting in
-    let bits : c.ranges-2.inside.layout.bits ≡ c.let_stay.new.self.bits = ap (λ (r : Cut). r.bits) c.ranges-2.view_is in
-    let parted : AllParted (step_at c.args.scaled.graph.now c.let_stay.new.levels c.let_stay.new.self.bits c.args.sweep.now.levels.level c.is_dealt-is_dealt.result) c.let_stay.new.self.parts c.part.new.self.parts = subst (λ b. AllParted (step_at c.args.scaled.graph.now c.let_stay.new.levels b c.args.sweep.now.levels.level c.is_dealt-is_dealt.result) c.let_stay.new.self.parts c.part.new.self.parts) bits c.in_ok-part.ensures.parted in
-    call_meetings c.args.scaled.th.now.profile c.args.scaled.graph.now c.requires.running.start c.args.sweep.now.levels c.args.sweep.now.ranges c.high-most.result c.requires.running.order limit c.requires.running.sweeping most_is c.vertices-n.ensures.graph c.vertices-n.ensures.small room tops c.take_waiting.new.self c.in_ok-waiting.ensures.took c.in_ok-waiting.ensures.same c.deref-2.result.now movers c.let_stay.new.levels c.let_stay.new.self c.in_ok-staying.ensures.stay c.in_ok-staying.ensures.same c.is_dealt-is_dealt.result c.part.new.self parted c.in_ok-part.ensures.told c.in_ok-part.ensures.same c.go_to.new.self c.go_to.ensures.level c.go_to.ensures.seen c.go_to.ensures.rises c.lift_off.new.levels c.lift_off.new.self c.in_ok-begun.ensures.lifted c.in_ok-begun.ensures.same c.args.sweep.now.levels.level (omega arith)
+    let parting : c.new-parting.result ≡ step_at c.args.scaled.graph.now c.let_stay.new.levels c.let_stay.new.self.bits c.args.sweep.now.levels.level c.sharing-sharing.result.is_dealt = c.new-parting.ensures ∙ ap (λ b. step_at c.args.scaled.graph.now c.let_stay.new.levels b c.args.sweep.now.levels.level c.sharing-sharing.result.is_dealt) c.sharing-sharing.ensures in
+    let parted : AllParted (step_at c.args.scaled.graph.now c.let_stay.new.levels c.let_stay.new.self.bits c.args.sweep.now.levels.level c.sharing-sharing.result.is_dealt) c.let_stay.new.self.parts c.part.new.self.parts = subst (λ k. AllParted k c.let_stay.new.self.parts c.part.new.self.parts) parting c.in_ok-part.ensures.parted in
+    call_meetings c.args.scaled.th.now.profile c.args.scaled.graph.now c.requires.running.start c.args.sweep.now.levels c.args.sweep.now.ranges c.high-most.result c.requires.running.order limit c.requires.running.sweeping most_is c.vertices-n.ensures.graph c.vertices-n.ensures.small room tops c.take_waiting.new.self c.in_ok-waiting.ensures.took c.in_ok-waiting.ensures.same c.deref-2.result.now movers c.let_stay.new.levels c.let_stay.new.self c.in_ok-staying.ensures.stay c.in_ok-staying.ensures.same c.sharing-sharing.result.is_dealt c.part.new.self parted c.in_ok-part.ensures.told c.in_ok-part.ensures.same c.go_to.new.self c.go_to.ensures.level c.go_to.ensures.seen c.go_to.ensures.rises c.lift_off.new.levels c.lift_off.new.self c.in_ok-begun.ensures.lifted c.in_ok-begun.ensures.same c.args.sweep.now.levels.level (omega arith)
 
 pub meeting_count-requires-2 : goal.meeting_count-requires-2
 meeting_count-requires-2 g c =
@@ -90,20 +86,20 @@ meeting_count-requires-2 g c =
     let room : c.args.sweep.now.levels.level < top_level c.args.scaled.th.now.profile c.args.scaled.graph.now.vertices = subst (λ n. c.args.sweep.now.levels.level < top_level c.args.scaled.th.now.profile n) c.args.scaled.scale c.requires.room in
     let tops : top_level c.args.scaled.th.now.profile c.args.scaled.graph.now.vertices < 65535 = subst (λ n. top_level c.args.scaled.th.now.profile n < 65535) c.args.scaled.scale c.group.ensures.small in
     let movers : c.deref-2.result.now ≡ filter (is_over (count_of c.take_waiting.new.self) c.high-most.result) (waits c.args.sweep.now.ranges c.args.sweep.now.levels.level) = begin_from (count_of c.take_waiting.new.self) c.high-most.result c.deref.result.now c.in_ok-waiting.waiting.items (waits c.args.sweep.now.ranges c.args.sweep.now.levels.level) c.in_ok-starting.starting.items c.deref-2.result.now c.deref-2.ensures.value c.in_ok-starting.ensures c.deref.ensures.value c.in_ok-waiting.ensures.waiting in
-    let bits : c.ranges-2.inside.layout.bits ≡ c.let_stay.new.self.bits = ap (λ (r : Cut). r.bits) c.ranges-2.view_is in
-    let parted : AllParted (step_at c.args.scaled.graph.now c.let_stay.new.levels c.let_stay.new.self.bits c.args.sweep.now.levels.level c.is_dealt-is_dealt.result) c.let_stay.new.self.parts c.part.new.self.parts = subst (λ b. AllParted (step_at c.args.scaled.graph.now c.let_stay.new.levels b c.args.sweep.now.levels.level c.is_dealt-is_dealt.result) c.let_stay.new.self.parts c.part.new.self.parts) bits c.in_ok-part.ensures.parted in
-    call_meetings c.args.scaled.th.now.profile c.args.scaled.graph.now c.requires.running.start c.args.sweep.now.levels c.args.sweep.now.ranges c.high-most.result c.requires.running.order limit c.requires.running.sweeping most_is c.vertices-n.ensures.graph c.vertices-n.ensures.small room tops c.take_waiting.new.self c.in_ok-waiting.ensures.took c.in_ok-waiting.ensures.same c.deref-2.result.now movers c.let_stay.new.levels c.let_stay.new.self c.in_ok-staying.ensures.stay c.in_ok-staying.ensures.same c.is_dealt-is_dealt.result c.part.new.self parted c.in_ok-part.ensures.told c.in_ok-part.ensures.same c.go_to.new.self c.go_to.ensures.level c.go_to.ensures.seen c.go_to.ensures.rises c.lift_off.new.levels c.lift_off.new.self c.in_ok-begun.ensures.lifted c.in_ok-begun.ensures.same (c.args.sweep.now.levels.level + 1) (omega arith)
+    let parting : c.new-parting.result ≡ step_at c.args.scaled.graph.now c.let_stay.new.levels c.let_stay.new.self.bits c.args.sweep.now.levels.level c.sharing-sharing.result.is_dealt = c.new-parting.ensures ∙ ap (λ b. step_at c.args.scaled.graph.now c.let_stay.new.levels b c.args.sweep.now.levels.level c.sharing-sharing.result.is_dealt) c.sharing-sharing.ensures in
+    let parted : AllParted (step_at c.args.scaled.graph.now c.let_stay.new.levels c.let_stay.new.self.bits c.args.sweep.now.levels.level c.sharing-sharing.result.is_dealt) c.let_stay.new.self.parts c.part.new.self.parts = subst (λ k. AllParted k c.let_stay.new.self.parts c.part.new.self.parts) parting c.in_ok-part.ensures.parted in
+    call_meetings c.args.scaled.th.now.profile c.args.scaled.graph.now c.requires.running.start c.args.sweep.now.levels c.args.sweep.now.ranges c.high-most.result c.requires.running.order limit c.requires.running.sweeping most_is c.vertices-n.ensures.graph c.vertices-n.ensures.small room tops c.take_waiting.new.self c.in_ok-waiting.ensures.took c.in_ok-waiting.ensures.same c.deref-2.result.now movers c.let_stay.new.levels c.let_stay.new.self c.in_ok-staying.ensures.stay c.in_ok-staying.ensures.same c.sharing-sharing.result.is_dealt c.part.new.self parted c.in_ok-part.ensures.told c.in_ok-part.ensures.same c.go_to.new.self c.go_to.ensures.level c.go_to.ensures.seen c.go_to.ensures.rises c.lift_off.new.levels c.lift_off.new.self c.in_ok-begun.ensures.lifted c.in_ok-begun.ensures.same (c.args.sweep.now.levels.level + 1) (omega arith)
 
-pub invariant_of-rising : goal.invariant_of-rising
-invariant_of-rising g c =
+pub new-rising-requires-clause-sized : goal.new-rising-requires-clause-sized
+new-rising-requires-clause-sized g c =
     let most_is : c.high-most.result ≡ high c.args.scaled.th.now.profile (group_of c.args.scaled.th.now.profile c.args.scaled.graph.now.vertices c.args.sweep.now.levels.level) = level_limit c.args.scaled.th.now.profile c.args.scaled.th.now.vertices c.args.scaled.graph.now.vertices c.args.sweep.now.levels.level c.high-most.result c.group.result c.high-most.ensures.value c.group.ensures.value c.args.scaled.scale in
     let limit : HasLimit c.high-most.result c.args.sweep.now.ranges = limit_from c.args.scaled.th.now.profile c.args.scaled.th.now.vertices c.args.sweep.now.levels.level c.high-most.result c.group.result c.args.sweep.now.ranges c.high-most.ensures.value c.group.ensures.value c.requires.limit in
     let room : c.args.sweep.now.levels.level < top_level c.args.scaled.th.now.profile c.args.scaled.graph.now.vertices = subst (λ n. c.args.sweep.now.levels.level < top_level c.args.scaled.th.now.profile n) c.args.scaled.scale c.requires.room in
     let tops : top_level c.args.scaled.th.now.profile c.args.scaled.graph.now.vertices < 65535 = subst (λ n. top_level c.args.scaled.th.now.profile n < 65535) c.args.scaled.scale c.group.ensures.small in
     let movers : c.deref-2.result.now ≡ filter (is_over (count_of c.take_waiting.new.self) c.high-most.result) (waits c.args.sweep.now.ranges c.args.sweep.now.levels.level) = begin_from (count_of c.take_waiting.new.self) c.high-most.result c.deref.result.now c.in_ok-waiting.waiting.items (waits c.args.sweep.now.ranges c.args.sweep.now.levels.level) c.in_ok-starting.starting.items c.deref-2.result.now c.deref-2.ensures.value c.in_ok-starting.ensures c.deref.ensures.value c.in_ok-waiting.ensures.waiting in
-    let bits : c.ranges-2.inside.layout.bits ≡ c.let_stay.new.self.bits = ap (λ (r : Cut). r.bits) c.ranges-2.view_is in
-    let parted : AllParted (step_at c.args.scaled.graph.now c.let_stay.new.levels c.let_stay.new.self.bits c.args.sweep.now.levels.level c.is_dealt-is_dealt.result) c.let_stay.new.self.parts c.part.new.self.parts = subst (λ b. AllParted (step_at c.args.scaled.graph.now c.let_stay.new.levels b c.args.sweep.now.levels.level c.is_dealt-is_dealt.result) c.let_stay.new.self.parts c.part.new.self.parts) bits c.in_ok-part.ensures.parted in
-    call_rise_step c.args.scaled.th.now.profile c.args.scaled.graph.now c.requires.running.start c.args.sweep.now.levels c.args.sweep.now.ranges c.high-most.result c.requires.running.order limit c.requires.running.sweeping most_is c.vertices-n.ensures.graph c.vertices-n.ensures.small room tops c.take_waiting.new.self c.in_ok-waiting.ensures.took c.in_ok-waiting.ensures.same c.deref-2.result.now movers c.let_stay.new.levels c.let_stay.new.self c.in_ok-staying.ensures.stay c.in_ok-staying.ensures.same c.is_dealt-is_dealt.result c.part.new.self parted c.in_ok-part.ensures.told c.in_ok-part.ensures.same c.go_to.new.self c.go_to.ensures.level c.go_to.ensures.seen c.go_to.ensures.rises c.lift_off.new.levels c.lift_off.new.self c.in_ok-begun.ensures.lifted c.in_ok-begun.ensures.same c.ranges-2.inside.layout.bits c.is_dealt-is_dealt_up.result
+    let parting : c.new-parting.result ≡ step_at c.args.scaled.graph.now c.let_stay.new.levels c.let_stay.new.self.bits c.args.sweep.now.levels.level c.sharing-sharing.result.is_dealt = c.new-parting.ensures ∙ ap (λ b. step_at c.args.scaled.graph.now c.let_stay.new.levels b c.args.sweep.now.levels.level c.sharing-sharing.result.is_dealt) c.sharing-sharing.ensures in
+    let parted : AllParted (step_at c.args.scaled.graph.now c.let_stay.new.levels c.let_stay.new.self.bits c.args.sweep.now.levels.level c.sharing-sharing.result.is_dealt) c.let_stay.new.self.parts c.part.new.self.parts = subst (λ k. AllParted k c.let_stay.new.self.parts c.part.new.self.parts) parting c.in_ok-part.ensures.parted in
+    (call_rise_step c.args.scaled.th.now.profile c.args.scaled.graph.now c.requires.running.start c.args.sweep.now.levels c.args.sweep.now.ranges c.high-most.result c.requires.running.order limit c.requires.running.sweeping most_is c.vertices-n.ensures.graph c.vertices-n.ensures.small room tops c.take_waiting.new.self c.in_ok-waiting.ensures.took c.in_ok-waiting.ensures.same c.deref-2.result.now movers c.let_stay.new.levels c.let_stay.new.self c.in_ok-staying.ensures.stay c.in_ok-staying.ensures.same c.sharing-sharing.result.is_dealt c.part.new.self parted c.in_ok-part.ensures.told c.in_ok-part.ensures.same c.go_to.new.self c.go_to.ensures.level c.go_to.ensures.seen c.go_to.ensures.rises c.lift_off.new.levels c.lift_off.new.self c.in_ok-begun.ensures.lifted c.in_ok-begun.ensures.same c.sharing-sharing-2.result.layout.bits c.sharing-sharing-2.result.is_dealt).sized
 
 pub rise-requires-after_bounds : goal.rise-requires-after_bounds
 rise-requires-after_bounds g c κs within =
@@ -112,10 +108,10 @@ rise-requires-after_bounds g c κs within =
     let room : c.args.sweep.now.levels.level < top_level c.args.scaled.th.now.profile c.args.scaled.graph.now.vertices = subst (λ n. c.args.sweep.now.levels.level < top_level c.args.scaled.th.now.profile n) c.args.scaled.scale c.requires.room in
     let tops : top_level c.args.scaled.th.now.profile c.args.scaled.graph.now.vertices < 65535 = subst (λ n. top_level c.args.scaled.th.now.profile n < 65535) c.args.scaled.scale c.group.ensures.small in
     let movers : c.deref-2.result.now ≡ filter (is_over (count_of c.take_waiting.new.self) c.high-most.result) (waits c.args.sweep.now.ranges c.args.sweep.now.levels.level) = begin_from (count_of c.take_waiting.new.self) c.high-most.result c.deref.result.now c.in_ok-waiting.waiting.items (waits c.args.sweep.now.ranges c.args.sweep.now.levels.level) c.in_ok-starting.starting.items c.deref-2.result.now c.deref-2.ensures.value c.in_ok-starting.ensures c.deref.ensures.value c.in_ok-waiting.ensures.waiting in
-    let bits : c.ranges-2.inside.layout.bits ≡ c.let_stay.new.self.bits = ap (λ (r : Cut). r.bits) c.ranges-2.view_is in
-    let parted : AllParted (step_at c.args.scaled.graph.now c.let_stay.new.levels c.let_stay.new.self.bits c.args.sweep.now.levels.level c.is_dealt-is_dealt.result) c.let_stay.new.self.parts c.part.new.self.parts = subst (λ b. AllParted (step_at c.args.scaled.graph.now c.let_stay.new.levels b c.args.sweep.now.levels.level c.is_dealt-is_dealt.result) c.let_stay.new.self.parts c.part.new.self.parts) bits c.in_ok-part.ensures.parted in
-    let bits4 : c.ranges-2.inside.layout.bits ≡ c.lift_off.new.self.bits = same_bits c.ranges-2.inside.layout.bits c.let_stay.new.self.bits c.part.new.self.bits c.lift_off.new.self.bits c.in_ok-begun.ensures.same.0 c.in_ok-part.ensures.same bits in
-    subst (λ b. CanRiseAll (step_at c.args.scaled.graph.now c.lift_off.new.levels b c.args.sweep.now.levels.level c.is_dealt-is_dealt_up.result) c.lift_off.new.self.parts c.lift_off.new.self.told) (sym bits4) (call_rise c.args.scaled.th.now.profile c.args.scaled.graph.now c.requires.running.start c.args.sweep.now.levels c.args.sweep.now.ranges c.high-most.result c.requires.running.order limit c.requires.running.sweeping most_is c.vertices-n.ensures.graph c.vertices-n.ensures.small room tops c.take_waiting.new.self c.in_ok-waiting.ensures.took c.in_ok-waiting.ensures.same c.deref-2.result.now movers c.let_stay.new.levels c.let_stay.new.self c.in_ok-staying.ensures.stay c.in_ok-staying.ensures.same c.is_dealt-is_dealt.result c.part.new.self parted c.in_ok-part.ensures.told c.in_ok-part.ensures.same c.go_to.new.self c.go_to.ensures.level c.go_to.ensures.seen c.go_to.ensures.rises c.lift_off.new.levels c.lift_off.new.self c.in_ok-begun.ensures.lifted c.in_ok-begun.ensures.same c.is_dealt-is_dealt_up.result)
+    let parting : c.new-parting.result ≡ step_at c.args.scaled.graph.now c.let_stay.new.levels c.let_stay.new.self.bits c.args.sweep.now.levels.level c.sharing-sharing.result.is_dealt = c.new-parting.ensures ∙ ap (λ b. step_at c.args.scaled.graph.now c.let_stay.new.levels b c.args.sweep.now.levels.level c.sharing-sharing.result.is_dealt) c.sharing-sharing.ensures in
+    let parted : AllParted (step_at c.args.scaled.graph.now c.let_stay.new.levels c.let_stay.new.self.bits c.args.sweep.now.levels.level c.sharing-sharing.result.is_dealt) c.let_stay.new.self.parts c.part.new.self.parts = subst (λ k. AllParted k c.let_stay.new.self.parts c.part.new.self.parts) parting c.in_ok-part.ensures.parted in
+    let rising : c.new-rising.result ≡ step_at c.args.scaled.graph.now c.lift_off.new.levels c.lift_off.new.self.bits c.args.sweep.now.levels.level c.sharing-sharing-2.result.is_dealt = c.new-rising.ensures ∙ ap (λ b. step_at c.args.scaled.graph.now c.lift_off.new.levels b c.args.sweep.now.levels.level c.sharing-sharing-2.result.is_dealt) c.sharing-sharing-2.ensures in
+    subst (λ k. CanRiseAll k c.lift_off.new.self.parts c.lift_off.new.self.told) (sym rising) (call_rise c.args.scaled.th.now.profile c.args.scaled.graph.now c.requires.running.start c.args.sweep.now.levels c.args.sweep.now.ranges c.high-most.result c.requires.running.order limit c.requires.running.sweeping most_is c.vertices-n.ensures.graph c.vertices-n.ensures.small room tops c.take_waiting.new.self c.in_ok-waiting.ensures.took c.in_ok-waiting.ensures.same c.deref-2.result.now movers c.let_stay.new.levels c.let_stay.new.self c.in_ok-staying.ensures.stay c.in_ok-staying.ensures.same c.sharing-sharing.result.is_dealt c.part.new.self parted c.in_ok-part.ensures.told c.in_ok-part.ensures.same c.go_to.new.self c.go_to.ensures.level c.go_to.ensures.seen c.go_to.ensures.rises c.lift_off.new.levels c.lift_off.new.self c.in_ok-begun.ensures.lifted c.in_ok-begun.ensures.same c.sharing-sharing-2.result.is_dealt)
 
 pub take_steps-requires : goal.take_steps-requires
 take_steps-requires g c =
@@ -124,12 +120,12 @@ take_steps-requires g c =
     let room : c.args.sweep.now.levels.level < top_level c.args.scaled.th.now.profile c.args.scaled.graph.now.vertices = subst (λ n. c.args.sweep.now.levels.level < top_level c.args.scaled.th.now.profile n) c.args.scaled.scale c.requires.room in
     let tops : top_level c.args.scaled.th.now.profile c.args.scaled.graph.now.vertices < 65535 = subst (λ n. top_level c.args.scaled.th.now.profile n < 65535) c.args.scaled.scale c.group.ensures.small in
     let movers : c.deref-2.result.now ≡ filter (is_over (count_of c.take_waiting.new.self) c.high-most.result) (waits c.args.sweep.now.ranges c.args.sweep.now.levels.level) = begin_from (count_of c.take_waiting.new.self) c.high-most.result c.deref.result.now c.in_ok-waiting.waiting.items (waits c.args.sweep.now.ranges c.args.sweep.now.levels.level) c.in_ok-starting.starting.items c.deref-2.result.now c.deref-2.ensures.value c.in_ok-starting.ensures c.deref.ensures.value c.in_ok-waiting.ensures.waiting in
-    let bits : c.ranges-2.inside.layout.bits ≡ c.let_stay.new.self.bits = ap (λ (r : Cut). r.bits) c.ranges-2.view_is in
-    let parted : AllParted (step_at c.args.scaled.graph.now c.let_stay.new.levels c.let_stay.new.self.bits c.args.sweep.now.levels.level c.is_dealt-is_dealt.result) c.let_stay.new.self.parts c.part.new.self.parts = subst (λ b. AllParted (step_at c.args.scaled.graph.now c.let_stay.new.levels b c.args.sweep.now.levels.level c.is_dealt-is_dealt.result) c.let_stay.new.self.parts c.part.new.self.parts) bits c.in_ok-part.ensures.parted in
-    let bits4 : c.ranges-2.inside.layout.bits ≡ c.lift_off.new.self.bits = same_bits c.ranges-2.inside.layout.bits c.let_stay.new.self.bits c.part.new.self.bits c.lift_off.new.self.bits c.in_ok-begun.ensures.same.0 c.in_ok-part.ensures.same bits in
+    let parting : c.new-parting.result ≡ step_at c.args.scaled.graph.now c.let_stay.new.levels c.let_stay.new.self.bits c.args.sweep.now.levels.level c.sharing-sharing.result.is_dealt = c.new-parting.ensures ∙ ap (λ b. step_at c.args.scaled.graph.now c.let_stay.new.levels b c.args.sweep.now.levels.level c.sharing-sharing.result.is_dealt) c.sharing-sharing.ensures in
+    let parted : AllParted (step_at c.args.scaled.graph.now c.let_stay.new.levels c.let_stay.new.self.bits c.args.sweep.now.levels.level c.sharing-sharing.result.is_dealt) c.let_stay.new.self.parts c.part.new.self.parts = subst (λ k. AllParted k c.let_stay.new.self.parts c.part.new.self.parts) parting c.in_ok-part.ensures.parted in
+    let rising : c.new-rising.result ≡ step_at c.args.scaled.graph.now c.lift_off.new.levels c.lift_off.new.self.bits c.args.sweep.now.levels.level c.sharing-sharing-2.result.is_dealt = c.new-rising.ensures ∙ ap (λ b. step_at c.args.scaled.graph.now c.lift_off.new.levels b c.args.sweep.now.levels.level c.sharing-sharing-2.result.is_dealt) c.sharing-sharing-2.ensures in
     let above_is : c.high-above.result ≡ high c.args.scaled.th.now.profile (group_of c.args.scaled.th.now.profile c.args.scaled.graph.now.vertices (c.args.sweep.now.levels.level + 1)) = level_limit c.args.scaled.th.now.profile c.args.scaled.th.now.vertices c.args.scaled.graph.now.vertices (c.args.sweep.now.levels.level + 1) c.high-above.result c.group-2.result c.high-above.ensures.value c.group-2.ensures.value c.args.scaled.scale in
-    let risen : AllRisen (step_at c.args.scaled.graph.now c.lift_off.new.levels c.lift_off.new.self.bits c.args.sweep.now.levels.level c.is_dealt-is_dealt_up.result) c.high-above.result c.lift_off.new.self.parts c.rise.new.self.parts = subst (λ b. AllRisen (step_at c.args.scaled.graph.now c.lift_off.new.levels b c.args.sweep.now.levels.level c.is_dealt-is_dealt_up.result) c.high-above.result c.lift_off.new.self.parts c.rise.new.self.parts) bits4 c.in_ok-rise.ensures.risen in
-    call_steps c.args.scaled.th.now.profile c.args.scaled.graph.now c.requires.running.start c.args.sweep.now.levels c.args.sweep.now.ranges c.high-most.result c.requires.running.order limit c.requires.running.sweeping most_is c.vertices-n.ensures.graph c.vertices-n.ensures.small room tops c.take_waiting.new.self c.in_ok-waiting.ensures.took c.in_ok-waiting.ensures.same c.deref-2.result.now movers c.let_stay.new.levels c.let_stay.new.self c.in_ok-staying.ensures.stay c.in_ok-staying.ensures.same c.is_dealt-is_dealt.result c.part.new.self parted c.in_ok-part.ensures.told c.in_ok-part.ensures.same c.go_to.new.self c.go_to.ensures.level c.go_to.ensures.seen c.go_to.ensures.rises c.lift_off.new.levels c.lift_off.new.self c.in_ok-begun.ensures.lifted c.in_ok-begun.ensures.same c.high-above.result above_is c.is_dealt-is_dealt_up.result c.rise.new.self risen c.in_ok-rise.ensures.told c.in_ok-rise.ensures.same
+    let risen : AllRisen (step_at c.args.scaled.graph.now c.lift_off.new.levels c.lift_off.new.self.bits c.args.sweep.now.levels.level c.sharing-sharing-2.result.is_dealt) c.high-above.result c.lift_off.new.self.parts c.rise.new.self.parts = subst (λ k. AllRisen k c.high-above.result c.lift_off.new.self.parts c.rise.new.self.parts) rising c.in_ok-rise.ensures.risen in
+    call_steps c.args.scaled.th.now.profile c.args.scaled.graph.now c.requires.running.start c.args.sweep.now.levels c.args.sweep.now.ranges c.high-most.result c.requires.running.order limit c.requires.running.sweeping most_is c.vertices-n.ensures.graph c.vertices-n.ensures.small room tops c.take_waiting.new.self c.in_ok-waiting.ensures.took c.in_ok-waiting.ensures.same c.deref-2.result.now movers c.let_stay.new.levels c.let_stay.new.self c.in_ok-staying.ensures.stay c.in_ok-staying.ensures.same c.sharing-sharing.result.is_dealt c.part.new.self parted c.in_ok-part.ensures.told c.in_ok-part.ensures.same c.go_to.new.self c.go_to.ensures.level c.go_to.ensures.seen c.go_to.ensures.rises c.lift_off.new.levels c.lift_off.new.self c.in_ok-begun.ensures.lifted c.in_ok-begun.ensures.same c.high-above.result above_is c.sharing-sharing-2.result.is_dealt c.rise.new.self risen c.in_ok-rise.ensures.told c.in_ok-rise.ensures.same
 
 pub returns-clause-step : goal.returns-clause-step
 returns-clause-step g c =
@@ -138,28 +134,28 @@ returns-clause-step g c =
     let room : c.args.sweep.now.levels.level < top_level c.args.scaled.th.now.profile c.args.scaled.graph.now.vertices = subst (λ n. c.args.sweep.now.levels.level < top_level c.args.scaled.th.now.profile n) c.args.scaled.scale c.requires.room in
     let tops : top_level c.args.scaled.th.now.profile c.args.scaled.graph.now.vertices < 65535 = subst (λ n. top_level c.args.scaled.th.now.profile n < 65535) c.args.scaled.scale c.group.ensures.small in
     let movers : c.deref-2.result.now ≡ filter (is_over (count_of c.take_waiting.new.self) c.high-most.result) (waits c.args.sweep.now.ranges c.args.sweep.now.levels.level) = begin_from (count_of c.take_waiting.new.self) c.high-most.result c.deref.result.now c.in_ok-waiting.waiting.items (waits c.args.sweep.now.ranges c.args.sweep.now.levels.level) c.in_ok-starting.starting.items c.deref-2.result.now c.deref-2.ensures.value c.in_ok-starting.ensures c.deref.ensures.value c.in_ok-waiting.ensures.waiting in
-    let bits : c.ranges-2.inside.layout.bits ≡ c.let_stay.new.self.bits = ap (λ (r : Cut). r.bits) c.ranges-2.view_is in
-    let parted : AllParted (step_at c.args.scaled.graph.now c.let_stay.new.levels c.let_stay.new.self.bits c.args.sweep.now.levels.level c.is_dealt-is_dealt.result) c.let_stay.new.self.parts c.part.new.self.parts = subst (λ b. AllParted (step_at c.args.scaled.graph.now c.let_stay.new.levels b c.args.sweep.now.levels.level c.is_dealt-is_dealt.result) c.let_stay.new.self.parts c.part.new.self.parts) bits c.in_ok-part.ensures.parted in
-    let bits4 : c.ranges-2.inside.layout.bits ≡ c.lift_off.new.self.bits = same_bits c.ranges-2.inside.layout.bits c.let_stay.new.self.bits c.part.new.self.bits c.lift_off.new.self.bits c.in_ok-begun.ensures.same.0 c.in_ok-part.ensures.same bits in
+    let parting : c.new-parting.result ≡ step_at c.args.scaled.graph.now c.let_stay.new.levels c.let_stay.new.self.bits c.args.sweep.now.levels.level c.sharing-sharing.result.is_dealt = c.new-parting.ensures ∙ ap (λ b. step_at c.args.scaled.graph.now c.let_stay.new.levels b c.args.sweep.now.levels.level c.sharing-sharing.result.is_dealt) c.sharing-sharing.ensures in
+    let parted : AllParted (step_at c.args.scaled.graph.now c.let_stay.new.levels c.let_stay.new.self.bits c.args.sweep.now.levels.level c.sharing-sharing.result.is_dealt) c.let_stay.new.self.parts c.part.new.self.parts = subst (λ k. AllParted k c.let_stay.new.self.parts c.part.new.self.parts) parting c.in_ok-part.ensures.parted in
+    let rising : c.new-rising.result ≡ step_at c.args.scaled.graph.now c.lift_off.new.levels c.lift_off.new.self.bits c.args.sweep.now.levels.level c.sharing-sharing-2.result.is_dealt = c.new-rising.ensures ∙ ap (λ b. step_at c.args.scaled.graph.now c.lift_off.new.levels b c.args.sweep.now.levels.level c.sharing-sharing-2.result.is_dealt) c.sharing-sharing-2.ensures in
     let above_is : c.high-above.result ≡ high c.args.scaled.th.now.profile (group_of c.args.scaled.th.now.profile c.args.scaled.graph.now.vertices (c.args.sweep.now.levels.level + 1)) = level_limit c.args.scaled.th.now.profile c.args.scaled.th.now.vertices c.args.scaled.graph.now.vertices (c.args.sweep.now.levels.level + 1) c.high-above.result c.group-2.result c.high-above.ensures.value c.group-2.ensures.value c.args.scaled.scale in
-    let risen : AllRisen (step_at c.args.scaled.graph.now c.lift_off.new.levels c.lift_off.new.self.bits c.args.sweep.now.levels.level c.is_dealt-is_dealt_up.result) c.high-above.result c.lift_off.new.self.parts c.rise.new.self.parts = subst (λ b. AllRisen (step_at c.args.scaled.graph.now c.lift_off.new.levels b c.args.sweep.now.levels.level c.is_dealt-is_dealt_up.result) c.high-above.result c.lift_off.new.self.parts c.rise.new.self.parts) bits4 c.in_ok-rise.ensures.risen in
-    step_from c.args.scaled.th.now.profile c.args.scaled.th.now.vertices c.args.sweep.now.levels.level c.high-most.result c.group.result c.args.scaled.graph.now (seen c.args.sweep.now.levels) (seen c.lift_off.new.levels) (count_of c.args.sweep.now.ranges) (count_of c.take_steps.new.self) c.high-most.ensures.value c.group.ensures.value (next_step c.args.scaled.th.now.profile c.args.scaled.graph.now c.requires.running.start c.args.sweep.now.levels c.args.sweep.now.ranges c.high-most.result c.requires.running.order limit c.requires.running.sweeping most_is c.vertices-n.ensures.graph c.vertices-n.ensures.small room tops c.take_waiting.new.self c.in_ok-waiting.ensures.took c.in_ok-waiting.ensures.same c.deref-2.result.now movers c.let_stay.new.levels c.let_stay.new.self c.in_ok-staying.ensures.stay c.in_ok-staying.ensures.same c.is_dealt-is_dealt.result c.part.new.self parted c.in_ok-part.ensures.told c.in_ok-part.ensures.same c.go_to.new.self c.go_to.ensures.level c.go_to.ensures.seen c.go_to.ensures.rises c.lift_off.new.levels c.lift_off.new.self c.in_ok-begun.ensures.lifted c.in_ok-begun.ensures.same c.high-above.result above_is c.is_dealt-is_dealt_up.result c.rise.new.self risen c.in_ok-rise.ensures.told c.in_ok-rise.ensures.same c.take_steps.new.self c.take_steps.ensures.rest c.take_steps.ensures.same)
+    let risen : AllRisen (step_at c.args.scaled.graph.now c.lift_off.new.levels c.lift_off.new.self.bits c.args.sweep.now.levels.level c.sharing-sharing-2.result.is_dealt) c.high-above.result c.lift_off.new.self.parts c.rise.new.self.parts = subst (λ k. AllRisen k c.high-above.result c.lift_off.new.self.parts c.rise.new.self.parts) rising c.in_ok-rise.ensures.risen in
+    step_from c.args.scaled.th.now.profile c.args.scaled.th.now.vertices c.args.sweep.now.levels.level c.high-most.result c.group.result c.args.scaled.graph.now (seen c.args.sweep.now.levels) (seen c.lift_off.new.levels) (count_of c.args.sweep.now.ranges) (count_of c.take_steps.new.self) c.high-most.ensures.value c.group.ensures.value (next_step c.args.scaled.th.now.profile c.args.scaled.graph.now c.requires.running.start c.args.sweep.now.levels c.args.sweep.now.ranges c.high-most.result c.requires.running.order limit c.requires.running.sweeping most_is c.vertices-n.ensures.graph c.vertices-n.ensures.small room tops c.take_waiting.new.self c.in_ok-waiting.ensures.took c.in_ok-waiting.ensures.same c.deref-2.result.now movers c.let_stay.new.levels c.let_stay.new.self c.in_ok-staying.ensures.stay c.in_ok-staying.ensures.same c.sharing-sharing.result.is_dealt c.part.new.self parted c.in_ok-part.ensures.told c.in_ok-part.ensures.same c.go_to.new.self c.go_to.ensures.level c.go_to.ensures.seen c.go_to.ensures.rises c.lift_off.new.levels c.lift_off.new.self c.in_ok-begun.ensures.lifted c.in_ok-begun.ensures.same c.high-above.result above_is c.sharing-sharing-2.result.is_dealt c.rise.new.self risen c.in_ok-rise.ensures.told c.in_ok-rise.ensures.same c.take_steps.new.self c.take_steps.ensures.rest c.take_steps.ensures.same)
 
 pub returns-clause-running : goal.returns-clause-running
-returns-clause-running g c = λ x first run.
+returns-clause-running g c = λ now x first run.
     let most_is : c.high-most.result ≡ high c.args.scaled.th.now.profile (group_of c.args.scaled.th.now.profile c.args.scaled.graph.now.vertices c.args.sweep.now.levels.level) = level_limit c.args.scaled.th.now.profile c.args.scaled.th.now.vertices c.args.scaled.graph.now.vertices c.args.sweep.now.levels.level c.high-most.result c.group.result c.high-most.ensures.value c.group.ensures.value c.args.scaled.scale in
     let limit : HasLimit c.high-most.result c.args.sweep.now.ranges = limit_from c.args.scaled.th.now.profile c.args.scaled.th.now.vertices c.args.sweep.now.levels.level c.high-most.result c.group.result c.args.sweep.now.ranges c.high-most.ensures.value c.group.ensures.value c.requires.limit in
     let room : c.args.sweep.now.levels.level < top_level c.args.scaled.th.now.profile c.args.scaled.graph.now.vertices = subst (λ n. c.args.sweep.now.levels.level < top_level c.args.scaled.th.now.profile n) c.args.scaled.scale c.requires.room in
     let tops : top_level c.args.scaled.th.now.profile c.args.scaled.graph.now.vertices < 65535 = subst (λ n. top_level c.args.scaled.th.now.profile n < 65535) c.args.scaled.scale c.group.ensures.small in
     let movers : c.deref-2.result.now ≡ filter (is_over (count_of c.take_waiting.new.self) c.high-most.result) (waits c.args.sweep.now.ranges c.args.sweep.now.levels.level) = begin_from (count_of c.take_waiting.new.self) c.high-most.result c.deref.result.now c.in_ok-waiting.waiting.items (waits c.args.sweep.now.ranges c.args.sweep.now.levels.level) c.in_ok-starting.starting.items c.deref-2.result.now c.deref-2.ensures.value c.in_ok-starting.ensures c.deref.ensures.value c.in_ok-waiting.ensures.waiting in
-    let bits : c.ranges-2.inside.layout.bits ≡ c.let_stay.new.self.bits = ap (λ (r : Cut). r.bits) c.ranges-2.view_is in
-    let parted : AllParted (step_at c.args.scaled.graph.now c.let_stay.new.levels c.let_stay.new.self.bits c.args.sweep.now.levels.level c.is_dealt-is_dealt.result) c.let_stay.new.self.parts c.part.new.self.parts = subst (λ b. AllParted (step_at c.args.scaled.graph.now c.let_stay.new.levels b c.args.sweep.now.levels.level c.is_dealt-is_dealt.result) c.let_stay.new.self.parts c.part.new.self.parts) bits c.in_ok-part.ensures.parted in
-    let bits4 : c.ranges-2.inside.layout.bits ≡ c.lift_off.new.self.bits = same_bits c.ranges-2.inside.layout.bits c.let_stay.new.self.bits c.part.new.self.bits c.lift_off.new.self.bits c.in_ok-begun.ensures.same.0 c.in_ok-part.ensures.same bits in
+    let parting : c.new-parting.result ≡ step_at c.args.scaled.graph.now c.let_stay.new.levels c.let_stay.new.self.bits c.args.sweep.now.levels.level c.sharing-sharing.result.is_dealt = c.new-parting.ensures ∙ ap (λ b. step_at c.args.scaled.graph.now c.let_stay.new.levels b c.args.sweep.now.levels.level c.sharing-sharing.result.is_dealt) c.sharing-sharing.ensures in
+    let parted : AllParted (step_at c.args.scaled.graph.now c.let_stay.new.levels c.let_stay.new.self.bits c.args.sweep.now.levels.level c.sharing-sharing.result.is_dealt) c.let_stay.new.self.parts c.part.new.self.parts = subst (λ k. AllParted k c.let_stay.new.self.parts c.part.new.self.parts) parting c.in_ok-part.ensures.parted in
+    let rising : c.new-rising.result ≡ step_at c.args.scaled.graph.now c.lift_off.new.levels c.lift_off.new.self.bits c.args.sweep.now.levels.level c.sharing-sharing-2.result.is_dealt = c.new-rising.ensures ∙ ap (λ b. step_at c.args.scaled.graph.now c.lift_off.new.levels b c.args.sweep.now.levels.level c.sharing-sharing-2.result.is_dealt) c.sharing-sharing-2.ensures in
     let above_is : c.high-above.result ≡ high c.args.scaled.th.now.profile (group_of c.args.scaled.th.now.profile c.args.scaled.graph.now.vertices (c.args.sweep.now.levels.level + 1)) = level_limit c.args.scaled.th.now.profile c.args.scaled.th.now.vertices c.args.scaled.graph.now.vertices (c.args.sweep.now.levels.level + 1) c.high-above.result c.group-2.result c.high-above.ensures.value c.group-2.ensures.value c.args.scaled.scale in
-    let risen : AllRisen (step_at c.args.scaled.graph.now c.lift_off.new.levels c.lift_off.new.self.bits c.args.sweep.now.levels.level c.is_dealt-is_dealt_up.result) c.high-above.result c.lift_off.new.self.parts c.rise.new.self.parts = subst (λ b. AllRisen (step_at c.args.scaled.graph.now c.lift_off.new.levels b c.args.sweep.now.levels.level c.is_dealt-is_dealt_up.result) c.high-above.result c.lift_off.new.self.parts c.rise.new.self.parts) bits4 c.in_ok-rise.ensures.risen in
-    let paid : IsPaid c.args.scaled.graph.now x (sweeping_of c.lift_off.new.levels c.take_steps.new.self) first (c.args.steps.now + c.take_steps.result) = subst (λ n. IsPaid c.args.scaled.graph.now x (sweeping_of c.lift_off.new.levels c.take_steps.new.self) first (c.args.steps.now + n)) (sym c.take_steps.ensures.steps) (next_paid c.args.scaled.th.now.profile c.args.scaled.graph.now x c.args.sweep.now.levels c.args.sweep.now.ranges c.high-most.result run.order limit run.sweeping most_is c.vertices-n.ensures.graph c.vertices-n.ensures.small room tops c.take_waiting.new.self c.in_ok-waiting.ensures.took c.in_ok-waiting.ensures.same c.deref-2.result.now movers c.let_stay.new.levels c.let_stay.new.self c.in_ok-staying.ensures.stay c.in_ok-staying.ensures.same c.is_dealt-is_dealt.result c.part.new.self parted c.in_ok-part.ensures.told c.in_ok-part.ensures.same c.go_to.new.self c.go_to.ensures.level c.go_to.ensures.seen c.go_to.ensures.rises c.lift_off.new.levels c.lift_off.new.self c.in_ok-begun.ensures.lifted c.in_ok-begun.ensures.same c.high-above.result above_is c.is_dealt-is_dealt_up.result c.rise.new.self risen c.in_ok-rise.ensures.told c.in_ok-rise.ensures.same c.take_steps.new.self c.take_steps.ensures.rest c.take_steps.ensures.same first c.args.steps.now run.paid) in
+    let risen : AllRisen (step_at c.args.scaled.graph.now c.lift_off.new.levels c.lift_off.new.self.bits c.args.sweep.now.levels.level c.sharing-sharing-2.result.is_dealt) c.high-above.result c.lift_off.new.self.parts c.rise.new.self.parts = subst (λ k. AllRisen k c.high-above.result c.lift_off.new.self.parts c.rise.new.self.parts) rising c.in_ok-rise.ensures.risen in
+    let paid : IsPaid c.args.scaled.graph.now x (sweeping_of c.lift_off.new.levels c.take_steps.new.self) first (now + c.take_steps.result) = subst (λ n. IsPaid c.args.scaled.graph.now x (sweeping_of c.lift_off.new.levels c.take_steps.new.self) first (now + n)) (sym c.take_steps.ensures.steps) (next_paid c.args.scaled.th.now.profile c.args.scaled.graph.now x c.args.sweep.now.levels c.args.sweep.now.ranges c.high-most.result run.order limit run.sweeping most_is c.vertices-n.ensures.graph c.vertices-n.ensures.small room tops c.take_waiting.new.self c.in_ok-waiting.ensures.took c.in_ok-waiting.ensures.same c.deref-2.result.now movers c.let_stay.new.levels c.let_stay.new.self c.in_ok-staying.ensures.stay c.in_ok-staying.ensures.same c.sharing-sharing.result.is_dealt c.part.new.self parted c.in_ok-part.ensures.told c.in_ok-part.ensures.same c.go_to.new.self c.go_to.ensures.level c.go_to.ensures.seen c.go_to.ensures.rises c.lift_off.new.levels c.lift_off.new.self c.in_ok-begun.ensures.lifted c.in_ok-begun.ensures.same c.high-above.result above_is c.sharing-sharing-2.result.is_dealt c.rise.new.self risen c.in_ok-rise.ensures.told c.in_ok-rise.ensures.same c.take_steps.new.self c.take_steps.ensures.rest c.take_steps.ensures.same first now run.paid) in
     record {
-      order = next_order c.args.scaled.th.now.profile c.args.scaled.graph.now c.requires.running.start c.args.sweep.now.levels c.args.sweep.now.ranges c.high-most.result c.requires.running.order limit c.requires.running.sweeping most_is c.vertices-n.ensures.graph c.vertices-n.ensures.small room tops c.take_waiting.new.self c.in_ok-waiting.ensures.took c.in_ok-waiting.ensures.same c.deref-2.result.now movers c.let_stay.new.levels c.let_stay.new.self c.in_ok-staying.ensures.stay c.in_ok-staying.ensures.same c.is_dealt-is_dealt.result c.part.new.self parted c.in_ok-part.ensures.told c.in_ok-part.ensures.same c.go_to.new.self c.go_to.ensures.level c.go_to.ensures.seen c.go_to.ensures.rises c.lift_off.new.levels c.lift_off.new.self c.in_ok-begun.ensures.lifted c.in_ok-begun.ensures.same c.high-above.result above_is c.is_dealt-is_dealt_up.result c.rise.new.self risen c.in_ok-rise.ensures.told c.in_ok-rise.ensures.same c.take_steps.new.self c.take_steps.ensures.rest c.take_steps.ensures.same;
-      sweeping = next_sweeping c.args.scaled.th.now.profile c.args.scaled.graph.now x c.args.sweep.now.levels c.args.sweep.now.ranges c.high-most.result run.order limit run.sweeping most_is c.vertices-n.ensures.graph c.vertices-n.ensures.small room tops c.take_waiting.new.self c.in_ok-waiting.ensures.took c.in_ok-waiting.ensures.same c.deref-2.result.now movers c.let_stay.new.levels c.let_stay.new.self c.in_ok-staying.ensures.stay c.in_ok-staying.ensures.same c.is_dealt-is_dealt.result c.part.new.self parted c.in_ok-part.ensures.told c.in_ok-part.ensures.same c.go_to.new.self c.go_to.ensures.level c.go_to.ensures.seen c.go_to.ensures.rises c.lift_off.new.levels c.lift_off.new.self c.in_ok-begun.ensures.lifted c.in_ok-begun.ensures.same c.high-above.result above_is c.is_dealt-is_dealt_up.result c.rise.new.self risen c.in_ok-rise.ensures.told c.in_ok-rise.ensures.same c.take_steps.new.self c.take_steps.ensures.rest c.take_steps.ensures.same;
-      paid = subst (λ n. IsPaid c.args.scaled.graph.now x (sweeping_of c.lift_off.new.levels c.take_steps.new.self) first n) (sym c.add.ensures) paid;
+      order = next_order c.args.scaled.th.now.profile c.args.scaled.graph.now c.requires.running.start c.args.sweep.now.levels c.args.sweep.now.ranges c.high-most.result c.requires.running.order limit c.requires.running.sweeping most_is c.vertices-n.ensures.graph c.vertices-n.ensures.small room tops c.take_waiting.new.self c.in_ok-waiting.ensures.took c.in_ok-waiting.ensures.same c.deref-2.result.now movers c.let_stay.new.levels c.let_stay.new.self c.in_ok-staying.ensures.stay c.in_ok-staying.ensures.same c.sharing-sharing.result.is_dealt c.part.new.self parted c.in_ok-part.ensures.told c.in_ok-part.ensures.same c.go_to.new.self c.go_to.ensures.level c.go_to.ensures.seen c.go_to.ensures.rises c.lift_off.new.levels c.lift_off.new.self c.in_ok-begun.ensures.lifted c.in_ok-begun.ensures.same c.high-above.result above_is c.sharing-sharing-2.result.is_dealt c.rise.new.self risen c.in_ok-rise.ensures.told c.in_ok-rise.ensures.same c.take_steps.new.self c.take_steps.ensures.rest c.take_steps.ensures.same;
+      sweeping = next_sweeping c.args.scaled.th.now.profile c.args.scaled.graph.now x c.args.sweep.now.levels c.args.sweep.now.ranges c.high-most.result run.order limit run.sweeping most_is c.vertices-n.ensures.graph c.vertices-n.ensures.small room tops c.take_waiting.new.self c.in_ok-waiting.ensures.took c.in_ok-waiting.ensures.same c.deref-2.result.now movers c.let_stay.new.levels c.let_stay.new.self c.in_ok-staying.ensures.stay c.in_ok-staying.ensures.same c.sharing-sharing.result.is_dealt c.part.new.self parted c.in_ok-part.ensures.told c.in_ok-part.ensures.same c.go_to.new.self c.go_to.ensures.level c.go_to.ensures.seen c.go_to.ensures.rises c.lift_off.new.levels c.lift_off.new.self c.in_ok-begun.ensures.lifted c.in_ok-begun.ensures.same c.high-above.result above_is c.sharing-sharing-2.result.is_dealt c.rise.new.self risen c.in_ok-rise.ensures.told c.in_ok-rise.ensures.same c.take_steps.new.self c.take_steps.ensures.rest c.take_steps.ensures.same;
+      paid = paid;
     }

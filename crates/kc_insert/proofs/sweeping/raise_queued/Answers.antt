@@ -10,8 +10,7 @@ use Rattle.kc_insert.specs.private.LevelStep.{AreInOrder}
 use Rattle.kc_insert.specs.private.Ranges.{count_of}
 use Rattle.kc_insert.specs.private.Sweeping.{AreCounted}
 use Rattle.kc_insert.specs.Ranges.{all_risen, Cut}
-use Rattle.kc_insert.proofs.Ending.{queues_long, queues_same, settled_order, some_range}
-use Rattle.kc_insert.proofs.Phases.{ends_began, ends_inside, ends_paid, ends_raised, ends_small, none_rises, starts_order, starts_paid, starts_sweeping}
+use Rattle.kc_insert.proofs.Phases.{queues_long, queues_same, stopped_order, some_range, ends_began, ends_inside, ends_paid, ends_raised, ends_small, none_rises, starts_order, starts_paid, starts_sweeping}
 use Rattle.kc_insert.proofs.sweeping.raise_queued.Goals as goal
 
 pub loop-sweep-init : goal.loop-sweep-init
@@ -38,28 +37,28 @@ loop-sweep-preserved g c =
       c.go_on-in-loop-sweep.ensures.running c.args.scaled c.rise_on.new.steps c.args.sweep.now.levels.stored c.args.steps.now i,
     )
 
-pub settle_all-requires-clause-small : goal.settle_all-requires-clause-small
-settle_all-requires-clause-small g c = λ v up. omega (arith, ends_small c.args.scaled.th.now.profile c.args.scaled.graph.now c.args.sweep.now.levels.stored c.loop-sweep.sweep.levels c.loop-sweep.sweep.ranges c.vertices-n.ensures.graph c.loop-sweep.invariant.1.order c.loop-sweep.invariant.1.sweeping v up, c.top-top.ensures.value, c.top-top.ensures.small, ap (top_level c.args.scaled.th.now.profile) c.args.scaled.scale)
+pub stop_all-requires-clause-small : goal.stop_all-requires-clause-small
+stop_all-requires-clause-small g c = λ v up. omega (arith, ends_small c.args.scaled.th.now.profile c.args.scaled.graph.now c.args.sweep.now.levels.stored c.loop-sweep.sweep.levels c.loop-sweep.sweep.ranges c.vertices-n.ensures.graph c.loop-sweep.invariant.1.order c.loop-sweep.invariant.1.sweeping v up, c.top-top.ensures.value, c.top-top.ensures.small, ap (top_level c.args.scaled.th.now.profile) c.args.scaled.scale)
 
-pub settle_all-requires-clause-inside : goal.settle_all-requires-clause-inside
-settle_all-requires-clause-inside g c = ends_inside c.args.scaled.th.now.profile c.args.scaled.graph.now c.args.sweep.now.levels.stored c.loop-sweep.sweep.levels c.loop-sweep.sweep.ranges c.vertices-n.ensures.graph c.loop-sweep.invariant.1.order c.loop-sweep.invariant.1.sweeping
+pub stop_all-requires-clause-inside : goal.stop_all-requires-clause-inside
+stop_all-requires-clause-inside g c = ends_inside c.args.scaled.th.now.profile c.args.scaled.graph.now c.args.sweep.now.levels.stored c.loop-sweep.sweep.levels c.loop-sweep.sweep.ranges c.vertices-n.ensures.graph c.loop-sweep.invariant.1.order c.loop-sweep.invariant.1.sweeping
 
-pub settle_all-requires-clause-began : goal.settle_all-requires-clause-began
-settle_all-requires-clause-began g c = ends_began c.args.scaled.th.now.profile c.args.scaled.graph.now c.args.sweep.now.levels.stored c.loop-sweep.sweep.levels c.loop-sweep.sweep.ranges c.vertices-n.ensures.graph c.loop-sweep.invariant.1.order c.loop-sweep.invariant.1.sweeping
+pub stop_all-requires-clause-began : goal.stop_all-requires-clause-began
+stop_all-requires-clause-began g c = ends_began c.args.scaled.th.now.profile c.args.scaled.graph.now c.args.sweep.now.levels.stored c.loop-sweep.sweep.levels c.loop-sweep.sweep.ranges c.vertices-n.ensures.graph c.loop-sweep.invariant.1.order c.loop-sweep.invariant.1.sweeping
 
 pub returns : goal.returns
 returns g c =
     let i = c.loop-sweep.invariant.1 in
     let tops : top_level c.args.scaled.th.now.profile c.args.scaled.graph.now.vertices < 65535 = omega (arith, c.top-top.ensures.value, c.top-top.ensures.small, ap (top_level c.args.scaled.th.now.profile) c.args.scaled.scale) in
-    let long = ap (λ (z : List ℕ). length z) c.settle_all.ensures.levels ∙ i.sweeping.placed.raising.sized in
-    let capped = subst (λ (z : List ℕ). IsCapped c.args.scaled.th.now.profile c.args.scaled.graph.now.vertices z) (sym c.settle_all.ensures.levels) i.sweeping.placed.raising.capped in
+    let long = ap (λ (z : List ℕ). length z) c.stop_all.ensures.levels ∙ i.sweeping.placed.raising.sized in
+    let capped = subst (λ (z : List ℕ). IsCapped c.args.scaled.th.now.profile c.args.scaled.graph.now.vertices z) (sym c.stop_all.ensures.levels) i.sweeping.placed.raising.capped in
     record {
-      raised = subst (λ (z : List ℕ). IsRaised c.args.scaled.th.now.profile c.args.scaled.graph.now c.args.sweep.now.levels.stored z) (sym c.settle_all.ensures.levels) (ends_raised c.args.scaled.th.now.profile c.args.scaled.graph.now c.args.sweep.now.levels.stored c.loop-sweep.sweep.levels c.loop-sweep.sweep.ranges c.vertices-n.ensures.graph c.loop-sweep.invariant.1.order c.loop-sweep.invariant.1.sweeping (omega (arith, c.top-top.ensures.value, c.loop-sweep-test.false, ap (top_level c.args.scaled.th.now.profile) c.args.scaled.scale)));
-      counted = subst (λ (r : Cut). AreCounted c.args.scaled.graph.now c.settle_all.new.self.levels.stored (count_of r)) (sym c.settle_all.ensures.ranges) (subst (λ (z : List ℕ). AreCounted c.args.scaled.graph.now z (count_of c.loop-sweep.sweep.ranges)) (sym c.settle_all.ensures.levels) i.sweeping.awaited.counted);
+      raised = subst (λ (z : List ℕ). IsRaised c.args.scaled.th.now.profile c.args.scaled.graph.now c.args.sweep.now.levels.stored z) (sym c.stop_all.ensures.levels) (ends_raised c.args.scaled.th.now.profile c.args.scaled.graph.now c.args.sweep.now.levels.stored c.loop-sweep.sweep.levels c.loop-sweep.sweep.ranges c.vertices-n.ensures.graph c.loop-sweep.invariant.1.order c.loop-sweep.invariant.1.sweeping (omega (arith, c.top-top.ensures.value, c.loop-sweep-test.false, ap (top_level c.args.scaled.th.now.profile) c.args.scaled.scale)));
+      counted = subst (λ (r : Cut). AreCounted c.args.scaled.graph.now c.stop_all.new.self.levels.stored (count_of r)) (sym c.stop_all.ensures.ranges) (subst (λ (z : List ℕ). AreCounted c.args.scaled.graph.now z (count_of c.loop-sweep.sweep.ranges)) (sym c.stop_all.ensures.levels) i.sweeping.awaited.counted);
       moved = record {
-        risen = λ v. ap (λ (r : Cut). has_number v (all_risen r)) c.settle_all.ensures.ranges ∙ c.loop-sweep.invariant.1.sweeping.rise.moved v ∙ ap (λ (z : List ℕ). is_moved c.args.sweep.now.levels.stored z v) (sym c.settle_all.ensures.levels);
-        once = subst (λ (r : Cut). AreDistinct (all_risen r)) (sym c.settle_all.ensures.ranges) c.loop-sweep.invariant.1.sweeping.rise.once;
+        risen = λ v. ap (λ (r : Cut). has_number v (all_risen r)) c.stop_all.ensures.ranges ∙ c.loop-sweep.invariant.1.sweeping.rise.moved v ∙ ap (λ (z : List ℕ). is_moved c.args.sweep.now.levels.stored z v) (sym c.stop_all.ensures.levels);
+        once = subst (λ (r : Cut). AreDistinct (all_risen r)) (sym c.stop_all.ensures.ranges) c.loop-sweep.invariant.1.sweeping.rise.once;
       };
-      order = subst (λ (r : Cut). AreInOrder c.args.scaled.th.now.profile c.args.scaled.graph.now c.settle_all.new.self.levels r) (sym c.settle_all.ensures.ranges) (settled_order c.args.scaled.th.now.profile c.args.scaled.graph.now c.loop-sweep.sweep.levels c.settle_all.new.self.levels c.loop-sweep.sweep.ranges (none_rises c.args.scaled.th.now.profile c.args.scaled.graph.now.vertices c.settle_all.new.self.levels long capped tops) i.order);
-      paid = omega (arith, ends_paid c.args.scaled.th.now.profile c.args.scaled.graph.now c.args.sweep.now.levels.stored c.loop-sweep.sweep.levels c.loop-sweep.sweep.ranges c.vertices-n.ensures.graph i.order i.sweeping c.args.steps.now c.loop-sweep.steps i.paid, ap (λ (r : Cut). degrees c.args.scaled.graph.now (all_risen r) + length (all_risen r)) c.settle_all.ensures.ranges, ap (λ (z : List ℕ). effort c.args.scaled.graph.now c.args.sweep.now.levels.stored z c.args.scaled.graph.now.vertices) c.settle_all.ensures.levels);
+      order = subst (λ (r : Cut). AreInOrder c.args.scaled.th.now.profile c.args.scaled.graph.now c.stop_all.new.self.levels r) (sym c.stop_all.ensures.ranges) (stopped_order c.args.scaled.th.now.profile c.args.scaled.graph.now c.loop-sweep.sweep.levels c.stop_all.new.self.levels c.loop-sweep.sweep.ranges (none_rises c.args.scaled.th.now.profile c.args.scaled.graph.now.vertices c.stop_all.new.self.levels long capped tops) i.order);
+      paid = omega (arith, ends_paid c.args.scaled.th.now.profile c.args.scaled.graph.now c.args.sweep.now.levels.stored c.loop-sweep.sweep.levels c.loop-sweep.sweep.ranges c.vertices-n.ensures.graph i.order i.sweeping c.args.steps.now c.loop-sweep.steps i.paid, ap (λ (r : Cut). degrees c.args.scaled.graph.now (all_risen r) + length (all_risen r)) c.stop_all.ensures.ranges, ap (λ (z : List ℕ). effort c.args.scaled.graph.now c.args.sweep.now.levels.stored z c.args.scaled.graph.now.vertices) c.stop_all.ensures.levels);
     }

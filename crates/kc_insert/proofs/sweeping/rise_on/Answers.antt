@@ -1,4 +1,4 @@
-use Rattle.std.proofs.Common.{◌<◌, length, ap, sym, subst, arith}
+use Rattle.std.proofs.Common.{◌+◌, ◌<◌, length, ap, sym, subst, arith}
 use Rattle.std.proofs.lemmas.List.{get_or_default}
 use Rattle.kc_levels.specs.Thresholds.{group_of, high, top_level}
 use Rattle.kc_insert.specs.declared.rising.RisingLevels.{RisingLevels}
@@ -37,4 +37,5 @@ raise_level-requires-clause-running g c κs within =
 pub returns-clause-running : goal.returns-clause-running
 returns-clause-running g c = λ x first run.
     let on : IsRunning c.args.scaled.th.now.profile c.args.scaled.graph.now x first c.args.steps.now c.look_anew.new.self.levels c.look_anew.new.self.ranges = subst (λ (s : RisingLevels). IsRunning c.args.scaled.th.now.profile c.args.scaled.graph.now x first c.args.steps.now s c.look_anew.new.self.ranges) (sym c.in_ok-look_anew.ensures.levels) (looked_running c.args.scaled.th.now.profile c.args.scaled.graph.now c.args.sweep.now.levels _ c.args.sweep.now.ranges c.look_anew.new.self.ranges c.in_ok-look_anew.ensures.looked c.in_ok-look_anew.ensures.same.0 c.in_ok-look_anew.ensures.same.1 x first c.args.steps.now run) in
-    c.in_ok-raise_level.ensures.running x first (subst (λ (w : Sweep). IsRunning c.args.scaled.th.now.profile c.args.scaled.graph.now x first c.args.steps.now w.levels w.ranges) (sym (c.rise_together.ensures.stays c.if-rise_together.false)) on)
+    let went : IsRunning c.args.scaled.th.now.profile c.args.scaled.graph.now x first (c.args.steps.now + c.in_ok-count.count) c.raise_level.new.sweep.levels c.raise_level.new.sweep.ranges = c.in_ok-count.ensures.running c.args.steps.now x first (subst (λ (w : Sweep). IsRunning c.args.scaled.th.now.profile c.args.scaled.graph.now x first c.args.steps.now w.levels w.ranges) (sym (c.rise_together.ensures.stays c.if-rise_together.false)) on) in
+    subst (λ n. IsRunning c.args.scaled.th.now.profile c.args.scaled.graph.now x first n c.raise_level.new.sweep.levels c.raise_level.new.sweep.ranges) (sym c.add.ensures) went

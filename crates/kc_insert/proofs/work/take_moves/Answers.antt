@@ -1,7 +1,7 @@
 use Rattle.std.proofs.Common.{ℕ, List, ◌+◌, length, ap, sym, ◌∙◌, subst}
 use Rattle.kc_levels.specs.Following.{AreDistinct}
 use Rattle.kc_adj.specs.Degrees.{degrees}
-use Rattle.kc_insert.proofs.Fees.{rising_once, same_fees}
+use Rattle.kc_insert.proofs.Members.{rising_once, same_fees}
 use Rattle.kc_insert.proofs.work.take_moves.Goals as goal
 
 pub par_lift_all-requires-clause-once : goal.par_lift_all-requires-clause-once

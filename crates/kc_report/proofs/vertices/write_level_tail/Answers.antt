@@ -19,7 +19,7 @@ returns-in_err-write_counts-clause-text g c =
     counts_prefix c.args.th.now.profile c.args.th.now.vertices c.args.graph.now c.args.levels.now
     (record { v = c.loop-v.v; level = get_or c.args.levels.now c.loop-v.v 0; up = c.counts-up.result.0; down = c.counts-up.result.1 })
     _ _ _ c.requires.levels.0 refl (c.requires.counts c.loop-v.v c.counts-up.result within c.counts-up.ensures) within c.loop-v.invariant.taken
-    (c.in_err-write_counts.ensures.text c.args.th.now.profile c.args.th.now.vertices c.in_ok-words.ensures.words)
+    (c.in_err-write_counts.ensures.text c.args.th.now.profile c.args.th.now.vertices (rw c.deref.ensures.value c.in_ok-words.ensures.words))
     )
 
 pub loop-v-preserved : goal.loop-v-preserved
@@ -30,7 +30,7 @@ loop-v-preserved g c =
           counts_more c.args.th.now.profile c.args.th.now.vertices c.args.graph.now c.args.levels.now
           (record { v = c.loop-v.v; level = get_or c.args.levels.now c.loop-v.v 0; up = c.counts-up.result.0; down = c.counts-up.result.1 })
           _ _ _ c.requires.levels.0 refl (c.requires.counts c.loop-v.v c.counts-up.result within c.counts-up.ensures) c.loop-v.invariant.taken
-          (c.in_ok-write_counts.ensures.text c.args.th.now.profile c.args.th.now.vertices c.in_ok-words.ensures.words);
+          (c.in_ok-write_counts.ensures.text c.args.th.now.profile c.args.th.now.vertices (rw c.deref.ensures.value c.in_ok-words.ensures.words));
       faults = c.in_ok-write_counts.ensures.cause ∙ c.loop-v.invariant.faults;
     }
 

@@ -17,7 +17,7 @@ returns-in_err-settled-clause-text g c =
     let o = rw c.in-Some.is at c.in_ok-header.ensures.text in
     let p = err_from_is_err_and c.from_residual-in_err-settled.result c.from_residual-in_err-settled.ensures.1 in
     rw p.1 (after_header (EndsInDocument g.D.Document.is_document) c.in-Some.header _ _ _ _ _ _ o.0 o.1
-    (notes_prefix g.D.Document.is_document c.has_documents.ensures c.in-Some.header (tokens_left c.in-Some.reader (g.S.Source.left c.open_input.new.src)) _ _ p.0 _ c.in_err-settled.ensures.text))
+    (notes_prefix g.D.Document.is_document c.has_documents.ensures c.in-Some.header (tokens_left c.in-Some.lines (g.S.Source.left c.open_input.new.src)) _ _ p.0 _ c.in_err-settled.ensures.text))
 
 pub returns-in_err-write-clause-text : goal.returns-in_err-write-clause-text
 returns-in_err-write-clause-text g c =

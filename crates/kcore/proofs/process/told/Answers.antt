@@ -8,7 +8,7 @@ pub returns-clause-answer : goal.returns-clause-answer
 returns-clause-answer g c =
     process_answers (command_of c.args.words.now) g.J.Told.told g.K.Told.told _ _ _ _ _ _ _ _ _ _
     (ap (λ (s : Inlet). s.left) c.telling-input.ensures) (ap (λ (s : Outlet). s.taken) c.telling-output.ensures) c.requires.left c.requires.taken
-    c.run_command-status.ensures.answer c.into_writer.ensures.taken c.handed_on-done.ensures c.last_status.ensures
+    c.run_command-status.ensures.answer c.into_writer.ensures.taken c.flush_into_inner-done.ensures c.last_status.ensures
 
 pub returns-clause-usage : goal.returns-clause-usage
 returns-clause-usage g c = process_usage (command_of c.args.words.now) _ _ _ c.run_command-status.ensures.usage c.last_status.ensures

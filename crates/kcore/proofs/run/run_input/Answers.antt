@@ -15,9 +15,9 @@ pub returns-in_err-ended-clause-text : goal.returns-in_err-ended-clause-text
 returns-in_err-ended-clause-text g c =
     let o = rw c.in-Some.is at c.in_ok-header.ensures.text in
     let p = err_from_is_err_and c.from_residual-in_err-ended.result c.from_residual-in_err-ended.ensures.1 in
-    rw p.1 (after_header IsRunOf c.in-Some.header _ _ _ _ _ _ o.0 o.1 (run_stopped c.in-Some.header (tokens_left c.in-Some.reader (g.S.Source.left c.open_input.new.src)) _ _ p.0 _ c.in_err-ended.ensures.text))
+    rw p.1 (after_header IsRunOf c.in-Some.header _ _ _ _ _ _ o.0 o.1 (run_stopped c.in-Some.header (tokens_left c.in-Some.lines (g.S.Source.left c.open_input.new.src)) _ _ p.0 _ c.in_err-ended.ensures.text))
 
 pub returns-clause-text : goal.returns-clause-text
 returns-clause-text g c =
     let o = rw c.in-Some.is at c.in_ok-header.ensures.text in
-    after_header IsRunOf c.in-Some.header _ _ _ _ _ _ o.0 o.1 (run_written c.in-Some.header (tokens_left c.in-Some.reader (g.S.Source.left c.open_input.new.src)) _ _ c.in_ok-ended.ended _ refl c.in_ok-ended.ensures.text)
+    after_header IsRunOf c.in-Some.header _ _ _ _ _ _ o.0 o.1 (run_written c.in-Some.header (tokens_left c.in-Some.lines (g.S.Source.left c.open_input.new.src)) _ _ c.in_ok-ended.ended _ refl c.in_ok-ended.ensures.text)

@@ -1,6 +1,6 @@
 use Rattle.std.proofs.Common.{◌∙◌, refl, sym}
 use Rattle.std.specs.Prelude.{None}
-use Rattle.kcore.specs.declared.status.Status.TheVariants.{Usage}
+use Rattle.kc_shell.specs.declared.status.Status.TheVariants.{Usage}
 use Rattle.kcore.specs.Commands.{command_of}
 use Rattle.kcore.proofs.Completeness.{complete}
 use Rattle.kcore.proofs.ExactTexts.{holds}

@@ -9,7 +9,7 @@ use Rattle.kserve.proofs.reading.read_scripts.Given as goal
 
 abbrev pub invariant-loop-scripts : goal.invariant-loop-scripts
 invariant-loop-scripts g l = record {
-  told : option_map (scripts_from l.fn.n []) (batches_left (rules_for l.fn.n) l.fn.reader (g.S.Source.left l.fn.src)) ≡ option_map (scripts_from l.fn.n l.scripts.items) (batches_left (rules_for l.fn.n) l.reader (g.S.Source.left l.src));
+  told : option_map (scripts_from l.fn.n []) (batches_left (rules_for l.fn.n) l.fn.lines (g.S.Source.left l.fn.src)) ≡ option_map (scripts_from l.fn.n l.scripts.items) (batches_left (rules_for l.fn.n) l.lines (g.S.Source.left l.src));
   few : length l.scripts.items ≤ MAX_CLIENTS;
   count : l.count ≡ items_in l.scripts.items;
   few_items : l.count ≤ MAX_ITEMS;

@@ -1,8 +1,8 @@
 use Rattle.std.proofs.Common.{ℕ, List, [], ◌≡◌, ◌<◌, get_or, length, ap, sym, subst, ◌∙◌, arith}
 use Rattle.std.specs.Prelude.{All}
 use Rattle.std.specs.List.{flat_map}
+use Rattle.std.proofs.lemmas.List.{get_or_default}
 use Rattle.kc_insert.specs.Ranges.{Cut, Part, waits}
-use Rattle.kc_insert.proofs.Direct.{any_default}
 use Rattle.kc_insert.proofs.Nearest.{flat_none, flat_nothing, nearest_first, nearest_kept, nearest_lower}
 use Rattle.kc_insert.proofs.ranges.Ranges.next_waiting.Goals.{then-level-next, else-level-next}
 use Rattle.kc_insert.proofs.ranges.Ranges.next_waiting.Goals as goal
@@ -13,7 +13,7 @@ loop-range-init c = nearest_first (λ (p : Part). p.queue) c.as_slice-items.resu
 pub loop-range-preserved : goal.loop-range-preserved
 loop-range-preserved c =
     let at : c.loop-range.range-index < length c.as_slice-items.result.now = c.loop-range-test.true in
-    let here : (d : Part) → c.range.inside.queue ≡ (get_or c.as_slice-items.result.now c.loop-range.range-index d).queue = λ d. ap (λ (p : Part). p.queue) (c.range.view_is ∙ c.range-item.is ∙ any_default c.as_slice-items.result.now c.loop-range.range-index c.range-item.result d at) in
+    let here : (d : Part) → c.range.inside.queue ≡ (get_or c.as_slice-items.result.now c.loop-range.range-index d).queue = λ d. ap (λ (p : Part). p.queue) (c.range.view_is ∙ c.range-item.is ∙ get_or_default c.as_slice-items.result.now c.loop-range.range-index c.range-item.result d at) in
     elim c.if-level-next.branch [
       | then-level-next w ↦ rw w.next-is (nearest_lower (λ (p : Part). p.queue) c.as_slice-items.result.now c.loop-range.range-index c.args.from c.loop-range.next c.next-level.result at c.loop-range.invariant (omega (arith, c.next-level.type_inv)) c.next-level.ensures.from
           (λ d. omega (arith, c.next-level.ensures.inside, ap length (here d)))

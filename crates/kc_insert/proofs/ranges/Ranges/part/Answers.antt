@@ -1,5 +1,5 @@
 use Rattle.std.proofs.Common.{sym, ◌∙◌}
-use Rattle.kc_insert.proofs.Idle.{parted_none}
+use Rattle.kc_insert.proofs.Parting.{parted_none}
 use Rattle.kc_insert.proofs.ranges.Ranges.part.Goals as goal
 
 pub returns-then-count-eq0-clause-parted : goal.returns-then-count-eq0-clause-parted

@@ -20,7 +20,7 @@ returns-in_default-clause-empty g c = (
 )
 
 pub pop_as-requires-in-loop-self-clause-rule : goal.pop_as-requires-in-loop-self-clause-rule
-pop_as-requires-in-loop-self-clause-rule g c = (adds_from _ _ _ c.loop-self.invariant.1.role_is c.requires.invariant, learns_from _ _ _ c.loop-self.invariant.1.role_is)
+pop_as-requires-in-loop-self-clause-rule g c = (adds_from _ _ _ c.loop-self.invariant.drainer.role_is c.requires.invariant, learns_from _ _ _ c.loop-self.invariant.drainer.role_is)
 
 pub loop-self-preserved : goal.loop-self-preserved
 loop-self-preserved g c =
@@ -28,12 +28,20 @@ loop-self-preserved g c =
     let pushed = c.push-in-loop-self.ensures in
     let is_ok = c.unwrap-in-loop-self.ensures in
     let more : c.push-in-loop-self.new.self.items ≡ c.loop-self.drainer-inside.batch.items ++ c.in-Some-pop_as.next ∷ [] = grind (arith, common_steps, pushed.items, is_ok) in
-    let now = added _ c.loop-self.drainer-inside.pass c.pop_as-in-loop-self.new.pass _ _ _ c.args.drainer.now i.1 i.0 c.in-Some-pop_as.ensures.queue c.in-Some-pop_as.ensures.rule more i.5 in
-    (now.0, now.1, grind (arith, common_steps), grind (arith, common_steps), grind (arith, common_steps), now.2, now.3, now.4)
+    let now = added _ c.loop-self.drainer-inside.pass c.pop_as-in-loop-self.new.pass _ _ _ c.args.drainer.now i.drainer i.shape c.in-Some-pop_as.ensures.queue c.in-Some-pop_as.ensures.rule more i.clients in record {
+      shape = now.0;
+      drainer = now.1;
+      some = grind (arith, common_steps);
+      few = grind (arith, common_steps);
+      room = grind (arith, common_steps);
+      clients = now.2;
+      serials = now.3;
+      invariant = now.4;
+    }
 
 pub returns-in_default-pop_as-clause-short : goal.returns-in_default-pop_as-clause-short
 returns-in_default-pop_as-clause-short g c few = (
-  held_as _ 0 0 _ _ refl (c.loop-self.invariant.1.role_is ∙ ap (λ v. Drains (drained_of v)) (sym c.in_default-pop_as.ensures.rule.0)) (held_told _ 0 _ c.in_default-pop_as.ensures.rule.1),
+  held_as _ 0 0 _ _ refl (c.loop-self.invariant.drainer.role_is ∙ ap (λ v. Drains (drained_of v)) (sym c.in_default-pop_as.ensures.rule.0)) (held_told _ 0 _ c.in_default-pop_as.ensures.rule.1),
   held_whole _ c.pop_as-in-loop-self.new.pass c.loop-self.drainer-inside.batch.items _ c.in_default-pop_as.ensures.rule.0 c.in_default-pop_as.ensures.rule.1,
   held_empty _ c.pop_as-in-loop-self.new.pass _ c.in_default-pop_as.ensures.rule.0 c.in_default-pop_as.ensures.rule.1,
 )

@@ -13,8 +13,8 @@ use Rattle.kserve.proofs.server.Server.run.Goals as goal
 pub loop-turn-init : goal.loop-turn-init
 loop-turn-init g c =
     let asked = c.args.context.now in record {
-      served = none_served {T = Unit {0}} asked.n (start asked.n) c.args.drainer.now.taken c.args.self.now.engine.state _ _ tt c.requires.drainer.1 c.requires.start refl;
-      running = (c.requires.open, none_within asked.n c.args.self.now.engine.state c.requires.start);
+      served = none_served {T = Unit {0}} asked.n (start asked.n) c.args.drainer.now.taken c.args.self.now.engine.state _ _ tt c.requires.drainer.1 c.requires.fresh.state refl;
+      running = (c.requires.fresh.open_for, none_within asked.n c.args.self.now.engine.state c.requires.fresh.state);
       drained = none_drained c.args.intake.now c.args.drainer.now c.requires.drainer.0 c.requires.drainer.1;
       count = ap (λ (bs : List (List Update)). length (all_updates bs)) (sym c.requires.drainer.1);
       number = ap (λ (bs : List (List Update)). length bs) (sym c.requires.drainer.1);

@@ -13,17 +13,17 @@ use Rattle.kcore.proofs.documents.orient.OrientDocument.write.Goals as goal
 pub returns-in_err-oriented-clause-text : goal.returns-in_err-oriented-clause-text
 returns-in_err-oriented-clause-text g c =
     let p = err_from_is_err_and c.from_residual.result c.from_residual.ensures.1 in
-    rw p.1 (nothing_of_it c.args.engine.now.state (g.K.Sink.taken c.args.sink.now) p.0 c.requires.sound)
+    rw (p.1, ← c.last.view_is) (nothing_of_it c.last.inside.engine.now.state (g.K.Sink.taken c.args.sink.now) p.0 c.last.invariant.sound)
 
 pub returns-in_err-write_opening-clause-text : goal.returns-in_err-write_opening-clause-text
 returns-in_err-write_opening-clause-text g c =
-    let s = c.args.engine.now.state in
+    let s = c.last.inside.engine.now.state in
     let cs = c.in_ok-oriented.colours.items in
     let n = c.vertices-n.result in
     let count : n ≡ s.graph.vertices = c.vertices-n.ensures.count ∙ ap (λ (h : GraphShape). h.vertices) c.graph.ensures.value in
     let k = rw (c.graph-2.ensures.value, c.levels.ensures.value) at c.in_ok-oriented.ensures.colours in
     let p = err_from_is_err_and c.from_residual-in_err-write_opening.result c.from_residual-in_err-write_opening.ensures.1 in
-    rw p.1
+    rw (p.1, ← c.last.view_is)
     (
     oriented_written s cs n _ _ (Err p.0) count k
     (prefix_longer _ _ (orient_head_text n) (vertex_lines (oriented_vertex_text (orientation s.graph s.levels) cs) n ++ end_line) c.in_err-write_opening.ensures.text)
@@ -31,14 +31,17 @@ returns-in_err-write_opening-clause-text g c =
 
 pub returns-clause-text : goal.returns-clause-text
 returns-clause-text g c =
-    let s = c.args.engine.now.state in
+    let s = c.last.inside.engine.now.state in
     let cs = c.in_ok-oriented.colours.items in
     let n = c.vertices-n.result in
     let count : n ≡ s.graph.vertices = c.vertices-n.ensures.count ∙ ap (λ (h : GraphShape). h.vertices) c.graph.ensures.value in
     let k = rw (c.graph-2.ensures.value, c.levels.ensures.value) at c.in_ok-oriented.ensures.colours in
     let same = rw (c.graph-2.ensures.value, c.levels.ensures.value) at c.in_ok-oriented.ensures.orientation in
+    rw (← c.last.view_is)
+    (
     oriented_written s cs n _ _ c.write_tail.result count k
     (
     appends_then _ _ _ (orient_head_text n) (vertex_lines (oriented_vertex_text (orientation s.graph s.levels) cs) n ++ end_line) c.write_tail.result c.in_ok-write_opening.ensures.text
     (rw (c.as_slice.ensures.value, same) at c.write_tail.ensures.text)
+    )
     )

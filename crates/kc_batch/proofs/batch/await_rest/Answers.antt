@@ -1,9 +1,0 @@
-use Rattle.std.proofs.Common.{true, false}
-use Rattle.kc_batch.proofs.Aheads.{told_on}
-use Rattle.kc_batch.proofs.batch.await_rest.Goals as goal
-
-pub returns-then-ahead-clause-batches : goal.returns-then-ahead-clause-batches
-returns-then-ahead-clause-batches g c = rw c.if-ahead.true (told_on c.args.ahead.rules true c.args.ahead.items c.in_ok-next.next _ _ c.in_ok-next.ensures.batch)
-
-pub returns-clause-batches : goal.returns-clause-batches
-returns-clause-batches g c = rw c.if-ahead.false (told_on c.args.ahead.rules false c.args.ahead.items c.in_ok-next-2.next _ _ c.in_ok-next-2.ensures.batch)

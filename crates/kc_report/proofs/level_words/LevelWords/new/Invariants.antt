@@ -1,9 +1,0 @@
-use Rattle.std.proofs.Common.{ℕ, ◌<◌, length, slice_index}
-use Rattle.kc_report.specs.private.LevelWords.{AreLevelWords}
-use Rattle.kc_report.proofs.level_words.LevelWords.new.Given as goal
-
-abbrev pub invariant-loop-level : goal.invariant-loop-level
-invariant-loop-level l = record {
-  words : AreLevelWords l.th.profile l.th.vertices l.words.items;
-  enough : (v : ℕ) → v < l.level-index → slice_index l.levels v < length l.words.items;
-}
