@@ -8,7 +8,6 @@ use Rattle.kc_graph.proofs.lemmas.Numbers.{has_number-append, has_number_below}
 use Rattle.kc_levels.specs.Following.{AreDistinct}
 use Rattle.kc_adj.specs.Degrees.{degrees}
 use Rattle.kc_insert.proofs.Buckets.{has_number-filter}
-use Rattle.kc_insert.proofs.Across.{distinct_both}
 
 pub filter_yes : (p : ℕ → Bool) (v : ℕ) (vs : List ℕ) → p v ≡ true → filter p (v ∷ vs) ≡ v ∷ filter p vs
 filter_yes p v vs e = grind (arith, nat_tests, e)
@@ -93,7 +92,7 @@ weigh_same f (v ∷ vs) us once too same =
 
 -- the numbers of one list are those of two others together
 pub weigh_parts : (f : ℕ → ℕ) (vs us ws : List ℕ) → AreDistinct vs → AreDistinct us → AreDistinct ws → ((v : ℕ) → has_number v us ≡ true → has_number v ws ≡ false) → ((v : ℕ) → has_number v vs ≡ has_number v us || has_number v ws) → weigh f vs ≡ weigh f us + weigh f ws
-weigh_parts f vs us ws once too three apart same = weigh_same f vs (us ++ ws) once (distinct_both us ws too three apart) (λ v. same v ∙ sym (has_number-append v us ws)) ∙ weigh-append f us ws
+weigh_parts f vs us ws once too three apart same = weigh_same f vs (us ++ ws) once (distinct_append us ws too three apart) (λ v. same v ∙ sym (has_number-append v us ws)) ∙ weigh-append f us ws
 
 pub rising_once : (k : ℕ) (vs : List ℕ) → RisesFrom k vs → AreDistinct vs
 rising_once k [] r = record {}
