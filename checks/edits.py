@@ -6,9 +6,9 @@ hostile/edits/CRATE, and the wrong bodies of hostile/bodies.py. Runs in the gate
 
 An edit is a wrong body. Its file names a source file of the crate (`file:`), and pairs of a text that stands there
 once (`old:`) and its replacement (`new:`). Each edit has a row in hostile/edits/TABLE.md, and the calls and clauses
-that a row names stand on checks/clauses.txt. Prints what is wrong, and a last line that counts; ends with 1 if
-something is wrong. Whether they are refused is tried by `rt ci` (must-fail), by checks/refused.py, and by hand by
-hostile/edits.py and hostile/bodies.py.
+that a row names stand on checks/clauses.txt. A function on which an edit is tried (`only:`) stands in its file.
+Prints what is wrong, and a last line that counts; ends with 1 if something is wrong. Whether they are refused is tried
+by `rt ci` (must-fail), by checks/refused.py, and by hand by hostile/edits.py and hostile/bodies.py.
 """
 import importlib.util
 import os
@@ -61,6 +61,17 @@ def edits_in(folder):
             for name in sorted(os.listdir(place)) if os.path.isdir(place) else []:
                 if name.endswith(".edit"):
                     yield crate, name[:-5], os.path.join(place, name)
+
+
+def strange(crate, edit):
+    """Returns the paths of `only:` that name no function: the module's file doesn't have one of this name."""
+    lacking = []
+    for path in re.findall(r"^only: (\S+)$", edit, re.MULTILINE):
+        words = path.split("::")
+        homes = [os.path.join(CRATES, crate, "src", *words[:end]) + ".rt" for end in range(1, len(words))]
+        if not any(os.path.exists(home) and re.search(rf"\bfn {words[-1]}\b", read(home)) for home in homes):
+            lacking.append(path)
+    return lacking
 
 
 def rows(text):
@@ -130,6 +141,7 @@ def main():
             if (crate, name) in names:
                 wrong.append(f"{crate} {name}: there are two of this name")
             names[crate, name] = folder != OTHERS
+            wrong += [f"{crate} {name}: there is no function {lacking}" for lacking in strange(crate, read(path))]
             try:
                 edited(read(path), lambda file, home=crate: read(os.path.join(CRATES, home, file)))
             except (Unfit, OSError) as error:
