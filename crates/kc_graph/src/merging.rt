@@ -7,18 +7,22 @@ ghost use Rattle.kc_graph.specs.private.HalfLists.{halves_of};
 ghost use Rattle.kc_graph.specs.private.Halves.{has_second, SecondsRise};
 
 use crate::halves::Halves;
+use smallvec::SmallVec;
+
+/// The numbers of a row. Up to four lie in the row itself, and more in a block of their own.
+pub type Numbers = SmallVec<u32, 4>;
 
 /// Merges the first `old` numbers with those that come in, from the greatest down, into the end of the list.
 ///
 /// Returns where the old numbers that stay in place end, and where the merged ones begin. The places between are free.
-pub fn merge_back(items: &mut Vec<u32>, old: usize, incoming: Halves<'_>) -> (usize, usize)
-    requires room { length items.old.items ≡ old + length (halves_of incoming) }
-    requires rises { RisesFrom 0 (take old items.old.items) }
+pub fn merge_back(items: &mut [u32], old: usize, incoming: Halves<'_>) -> (usize, usize)
+    requires room { length items.old ≡ old + length (halves_of incoming) }
+    requires rises { RisesFrom 0 (take old items.old) }
     requires incoming { SecondsRise (halves_of incoming) }
     ensures order { result.0 ≤ result.1 }
-    ensures within { result.1 ≤ length items.new.items }
-    ensures rises { RisesFrom 0 (take result.0 items.new.items ++ drop result.1 items.new.items) }
-    ensures has { (x : ℕ) → has_number x (take result.0 items.new.items ++ drop result.1 items.new.items) ≡ has_number x (take old items.old.items) || has_second x (halves_of incoming.entry) }
+    ensures within { result.1 ≤ length items.new }
+    ensures rises { RisesFrom 0 (take result.0 items.new ++ drop result.1 items.new) }
+    ensures has { (x : ℕ) → has_number x (take result.0 items.new ++ drop result.1 items.new) ≡ has_number x (take old items.old) || has_second x (halves_of incoming.entry) }
 {
     let mut i = old;
     let mut j = incoming.len();
@@ -41,7 +45,7 @@ pub fn merge_back(items: &mut Vec<u32>, old: usize, incoming: Halves<'_>) -> (us
 }
 
 /// Removes the items from one place up to another.
-pub fn close(items: &mut Vec<u32>, from: usize, to: usize)
+pub fn close(items: &mut Numbers, from: usize, to: usize)
     requires order { from ≤ to }
     requires within { to ≤ length items.old.items }
     ensures { items.new.items ≡ take from items.old.items ++ drop to items.old.items }
@@ -81,11 +85,11 @@ const LEAST_RUN: usize = 16;
 ///
 /// Looks at every number. If few leave a long list, searches each of them and moves the numbers between two of them at
 /// once.
-pub fn keep_others(items: &mut Vec<u32>, outgoing: Halves<'_>) -> usize
-    requires rises { RisesFrom 0 items.old.items }
+pub fn keep_others(items: &mut [u32], outgoing: Halves<'_>) -> usize
+    requires rises { RisesFrom 0 items.old }
     requires outgoing { SecondsRise (halves_of outgoing) }
-    ensures within { result ≤ length items.new.items }
-    ensures kept { take result items.new.items ≡ filter (λ x. not (has_second x (halves_of outgoing.entry))) items.old.items }
+    ensures within { result ≤ length items.new }
+    ensures kept { take result items.new ≡ filter (λ x. not (has_second x (halves_of outgoing.entry))) items.old }
 {
     let searches = outgoing.len() <= items.len() / LEAST_RUN;
     let mut kept = 0;

@@ -7,7 +7,7 @@ ghost use Rattle.kc_graph.specs.private.HalfLists.{halves_of};
 ghost use Rattle.kc_graph.specs.private.Halves.{has_second, SecondsRise};
 
 use crate::halves::Halves;
-use crate::merging::{close, keep_others, merge_back};
+use crate::merging::{Numbers, close, keep_others, merge_back};
 use std::alloc::{AllocError, Global};
 use std::marker::Model;
 
@@ -15,7 +15,7 @@ use std::marker::Model;
 #[derive(Drop)]
 pub struct Row {
     // Strictly ascending.
-    items: Vec<u32>,
+    items: Numbers,
 }
 
 impl Model for Row {
@@ -45,13 +45,13 @@ fn ends_below(items: &[u32], x: u32) -> bool
     }
 }
 
-// The least number of numbers for which a row takes memory.
+// The least number of numbers for which a row takes a block.
 const LEAST_ROOM: usize = 6;
 
-// Makes room for further numbers. A full row gets room for two more than twice its numbers: 6, 14, 30 and so on. An
-// allocator puts a word before each block, so these fill 32, 64 and 128 bytes. Such rows grow less often than those of
-// 4, 8 and 16 numbers, and lie closer together. Fails only if memory runs out.
-fn make_room(items: &mut Vec<u32>, further: usize) -> Result<(), AllocError>
+// Makes room for further numbers. A full row gets room for two more than twice its numbers: 10, 22, 46 and so on. An
+// allocator puts a word before each block, so these fill 48, 96 and 192 bytes. Such rows grow less often than those of
+// 8, 16 and 32 numbers, and lie closer together. Fails only if memory runs out.
+fn make_room(items: &mut Numbers, further: usize) -> Result<(), AllocError>
     ensures { items.new.items ≡ items.old.items }
 {
     let len = items.len();
@@ -67,7 +67,7 @@ impl Row {
         ensures { result ≡ [] }
     {
         Row {
-            items: Vec::new(alloc),
+            items: Numbers::new(alloc),
         }
     }
 
@@ -82,14 +82,15 @@ impl Row {
     pub fn prefetch(&self) -> bool
         ensures { result ≡ true }
     {
-        let n = self.items.len();
-        n == 0 || self.items[0] <= self.items[n - 1]
+        let items = self.items.as_slice();
+        let n = items.len();
+        n == 0 || items[0] <= items[n - 1]
     }
 
     pub fn has(&self, x: u32) -> bool
         ensures { result ≡ has_number x self.now }
     {
-        place_of(&self.items, x).is_ok()
+        place_of(self.items.as_slice(), x).is_ok()
     }
 
     /// Puts x at its place; a row that has x is unchanged. A number above all others costs no search and no move. Fails
@@ -99,12 +100,12 @@ impl Row {
         ensures rises { RisesFrom 0 self.new }
         ensures err { OnErr result (self.new ≡ self.old) }
     {
-        if ends_below(&self.items, x) {
+        if ends_below(self.items.as_slice(), x) {
             make_room(&mut self.items, 1)?;
             self.items.push(x)?;
             return Ok(());
         }
-        match place_of(&self.items, x) {
+        match place_of(self.items.as_slice(), x) {
             Ok(_) => Ok(()),
             Err(place) => {
                 make_room(&mut self.items, 1)?;
@@ -119,7 +120,7 @@ impl Row {
         ensures value { self.new ≡ without x self.old }
         ensures rises { RisesFrom 0 self.new }
     {
-        if let Ok(place) = place_of(&self.items, x) {
+        if let Ok(place) = place_of(self.items.as_slice(), x) {
             let _ = self.items.remove(place);
         }
     }
@@ -146,9 +147,12 @@ impl Row {
         ensures err { OnErr result (self.new ≡ self.old) }
     {
         let old = self.items.len();
+        let Some(len) = old.checked_add(incoming.len()) else {
+            return Err(AllocError);
+        };
         make_room(&mut self.items, incoming.len())?;
-        self.items.resize(old + incoming.len(), 0)?;
-        let (end, next) = merge_back(&mut self.items, old, incoming);
+        self.items.resize(len, 0)?;
+        let (end, next) = merge_back(self.items.as_mut_slice(), old, incoming);
         close(&mut self.items, end, next);
         Ok(())
     }
@@ -173,7 +177,7 @@ impl Row {
         ensures value { self.new ≡ filter (λ x. not (has_second x (halves_of outgoing.entry))) self.old }
         ensures rises { RisesFrom 0 self.new }
     {
-        let kept = keep_others(&mut self.items, outgoing);
+        let kept = keep_others(self.items.as_mut_slice(), outgoing);
         self.items.truncate(kept);
     }
 }

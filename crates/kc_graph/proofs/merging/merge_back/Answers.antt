@@ -1,8 +1,7 @@
 use Rattle.std.proofs.Common.{ℕ, ◌≡◌, ◌-◌, ◌+◌, ◌<◌, ◌∙◌, take, get_or, refl, ap, arith, rules}
-use Rattle.std.proofs.lemmas.List.{get_or_read}
 use Rattle.kc_graph.specs.private.HalfLists.{halves_of}
 use Rattle.kc_graph.proofs.MergeLemmas.{merging_first, merging_new, merging_old, merging_both, merged_rises, merged_has}
-use Rattle.kc_graph.proofs.merging.merge_back.Goals.{then-loop-i-test+else-index-w, else-loop-i-test, then-i-gt0+then-index-w-2, else-i-gt0, else-i-gt0-via-then-i-gt0+else-index-w-2, else-i-gt0-via-else-i-gt0}
+use Rattle.kc_graph.proofs.merging.merge_back.Goals.{then-loop-i-test+else-items-i, else-loop-i-test, then-i-gt0+then-items-i-2, else-i-gt0, else-i-gt0-via-then-i-gt0+else-items-i-2, else-i-gt0-via-else-i-gt0}
 use Rattle.kc_graph.proofs.merging.merge_back.Goals as goal
 
 pub loop-j-init : goal.loop-j-init
@@ -11,49 +10,44 @@ loop-j-init c = merging_first _ (halves_of c.args.incoming) _ _ _ _ c.requires.r
 pub loop-i-preserved : goal.loop-i-preserved
 loop-i-preserved c =
     let s = c.loop-i.invariant in
-    let row = take c.args.old c.args.items.now.items in
+    let row = take c.args.old c.args.items.now in
     let hs = halves_of c.args.incoming in
     let inside : c.loop-i.i - 1 < c.loop-i.i = omega (arith, c.loop-i-test.true) in
-    let y_is : c.index.result.now ≡ get_or row (c.loop-i.i - 1) 0 = get_or_read c.loop-i.items.items (c.loop-i.i - 1) _ (omega (arith, s.fits, s.within, inside)) c.index.ensures 0 ∙ s.same (c.loop-i.i - 1) inside in
-    let z_is : c.index-in-loop-i.result.now ≡ get_or row (c.loop-i.i - 1) 0 = get_or_read c.loop-i.items.items (c.loop-i.i - 1) _ (omega (arith, s.fits, s.within, inside)) c.index-in-loop-i.ensures 0 ∙ s.same (c.loop-i.i - 1) inside in
-    rw z_is (merging_old row hs c.loop-i.items.items c.loop-i.i ((c.loop-j.j - 1) + 1) c.loop-i.at c.requires.rises c.requires.incoming s (c.loop-i.at - 1) (c.loop-j.j - 1) (omega (arith, s.fits)) refl (c.loop-i.i - 1) (omega (arith, inside)) (omega (arith, c.other_at-w.ensures, y_is, c.if-index-w.true)))
+    let y_is : get_or c.loop-i.items (c.loop-i.i - 1) 0 ≡ get_or row (c.loop-i.i - 1) 0 = s.same (c.loop-i.i - 1) inside in
+    rw y_is (merging_old row hs c.loop-i.items c.loop-i.i ((c.loop-j.j - 1) + 1) c.loop-i.at c.requires.rises c.requires.incoming s (c.loop-i.at - 1) (c.loop-j.j - 1) (omega (arith, s.fits)) refl (c.loop-i.i - 1) (omega (arith, inside)) (omega (arith, c.other_at-w.ensures, y_is, c.if-items-i.true)))
 
 pub loop-j-preserved : goal.loop-j-preserved
 loop-j-preserved c =
     let s = c.loop-i.invariant in
-    let row = take c.args.old c.args.items.now.items in
+    let row = take c.args.old c.args.items.now in
     let hs = halves_of c.args.incoming in
     elim c.if-i-gt0.branch [
-      | then-i-gt0+then-index-w-2 w ↦
+      | then-i-gt0+then-items-i-2 w ↦
           let inside : c.loop-i.i - 1 < c.loop-i.i = omega (arith, w.if-i-gt0.true) in
-          let y_is : w.index-then-i-gt0.result.now ≡ get_or row (c.loop-i.i - 1) 0 = get_or_read c.loop-i.items.items (c.loop-i.i - 1) _ (omega (arith, s.fits, s.within, inside)) w.index-then-i-gt0.ensures 0 ∙ s.same (c.loop-i.i - 1) inside in
-          let w_is : c.other_at-w.result ≡ get_or row (c.loop-i.i - 1) 0 = omega (arith, y_is, w.if-index-w-2.true) in
-          rw (w.i-is, w_is) (merging_both row hs c.loop-i.items.items c.loop-i.i ((c.loop-j.j - 1) + 1) c.loop-i.at c.requires.rises c.requires.incoming s (c.loop-i.at - 1) (c.loop-j.j - 1) (omega (arith, s.fits)) refl (c.loop-i.i - 1) (omega (arith, inside)) (omega (arith, c.other_at-w.ensures, w_is)))
+          let w_is : c.other_at-w.result ≡ get_or row (c.loop-i.i - 1) 0 = omega (arith, s.same (c.loop-i.i - 1) inside, w.if-items-i-2.true) in
+          rw (w.i-is, w_is) (merging_both row hs c.loop-i.items c.loop-i.i ((c.loop-j.j - 1) + 1) c.loop-i.at c.requires.rises c.requires.incoming s (c.loop-i.at - 1) (c.loop-j.j - 1) (omega (arith, s.fits)) refl (c.loop-i.i - 1) (omega (arith, inside)) (omega (arith, c.other_at-w.ensures, w_is)))
       | else-i-gt0 w ↦
           let above : (m : ℕ) → m + 1 ≡ c.loop-i.i → get_or row m 0 < (get_or hs (c.loop-j.j - 1) (0, 0)).1 = λ m e.
           let f : c.loop-i.i - 1 ≡ m = omega arith in
-          let inside : c.loop-i.i - 1 < c.loop-i.i = omega arith in
           elim w.else-i-gt0.branch [
-            | else-i-gt0-via-then-i-gt0+else-index-w-2 w' ↦
-                let y_is : w'.index-then-i-gt0.result.now ≡ get_or row m 0 = get_or_read c.loop-i.items.items (c.loop-i.i - 1) _ (omega (arith, s.fits, s.within, inside)) w'.index-then-i-gt0.ensures 0 ∙ ap (λ n. get_or c.loop-i.items.items n 0) f ∙ s.same m (omega arith) in
+            | else-i-gt0-via-then-i-gt0+else-items-i-2 w' ↦
+                let y_is : get_or c.loop-i.items (c.loop-i.i - 1) 0 ≡ get_or row m 0 = ap (λ n. get_or c.loop-i.items n 0) f ∙ s.same m (omega arith) in
                 elim c.loop-i-test.branch [
-                  | then-loop-i-test+else-index-w w'' ↦
-                      let z_is : w''.index.result.now ≡ get_or row m 0 = get_or_read c.loop-i.items.items (c.loop-i.i - 1) _ (omega (arith, s.fits, s.within, inside)) w''.index.ensures 0 ∙ ap (λ n. get_or c.loop-i.items.items n 0) f ∙ s.same m (omega arith) in
-                      omega (arith, y_is, z_is, c.other_at-w.ensures, w'.if-index-w-2.false, w''.if-index-w.false)
+                  | then-loop-i-test+else-items-i w'' ↦ omega (arith, y_is, c.other_at-w.ensures, w'.if-items-i-2.false, w''.if-items-i.false)
                   | else-loop-i-test w'' ↦ absurd (omega (arith, w''.loop-i-test.false, e))
                 ]
             | else-i-gt0-via-else-i-gt0 w' ↦ absurd (omega (arith, w'.if-i-gt0.false, e))
           ]
           in
-          rw (w.i-is, c.other_at-w.ensures) (merging_new row hs c.loop-i.items.items c.loop-i.i ((c.loop-j.j - 1) + 1) c.loop-i.at c.requires.rises c.requires.incoming s (c.loop-i.at - 1) (c.loop-j.j - 1) (omega (arith, s.fits)) refl above)
+          rw (w.i-is, c.other_at-w.ensures) (merging_new row hs c.loop-i.items c.loop-i.i ((c.loop-j.j - 1) + 1) c.loop-i.at c.requires.rises c.requires.incoming s (c.loop-i.at - 1) (c.loop-j.j - 1) (omega (arith, s.fits)) refl above)
     ]
 
 pub returns-clause-rises : goal.returns-clause-rises
 returns-clause-rises c =
     let none : c.loop-j.j ≡ 0 = omega (arith, c.loop-j-test.false) in
-    merged_rises (take c.args.old c.args.items.now.items) (halves_of c.args.incoming) c.loop-j.items.items c.loop-j.i c.loop-j.at c.requires.rises (rw none at c.loop-j.invariant)
+    merged_rises (take c.args.old c.args.items.now) (halves_of c.args.incoming) c.loop-j.items c.loop-j.i c.loop-j.at c.requires.rises (rw none at c.loop-j.invariant)
 
 pub returns-clause-has : goal.returns-clause-has
 returns-clause-has c =
     let none : c.loop-j.j ≡ 0 = omega (arith, c.loop-j-test.false) in
-    merged_has (take c.args.old c.args.items.now.items) (halves_of c.args.incoming) c.loop-j.items.items c.loop-j.i c.loop-j.at c.requires.rises (rw none at c.loop-j.invariant)
+    merged_has (take c.args.old c.args.items.now) (halves_of c.args.incoming) c.loop-j.items c.loop-j.i c.loop-j.at c.requires.rises (rw none at c.loop-j.invariant)

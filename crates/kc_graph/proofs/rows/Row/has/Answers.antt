@@ -3,5 +3,5 @@ use Rattle.kc_graph.proofs.rows.Row.has.Goals as goal
 
 pub returns : goal.returns
 returns c =
-    let told = is_ok-found c.deref.result.now c.args.x c.place_of.result c.place_of.ensures in
+    let told = is_ok-found c.as_slice.result.now c.args.x c.place_of.result c.place_of.ensures in
     cc (told, c.is_ok.ensures.value)

@@ -5,32 +5,32 @@ use Rattle.kc_graph.proofs.rows.Row.insert.Goals as goal
 
 pub invariant_of-self-then-ends_below : goal.invariant_of-self-then-ends_below
 invariant_of-self-then-ends_below c =
-    let above = rw c.deref.ensures.value at c.ends_below.ensures in
-    (pushed _ _ c.args.x c.self.invariant (above.0 c.if-ends_below.true) (rw c.make_room.ensures at c.in_ok-push.ensures.items)).1
+    let above = rw c.as_slice.ensures at c.ends_below.ensures in
+    (pushed _ _ c.args.x c.self.invariant (above.0 c.if-ends_below.true) (rw c.make_room.ensures at c.in_ok-push.ensures.ok)).1
 
 pub returns-then-ends_below-clause-ok : goal.returns-then-ends_below-clause-ok
 returns-then-ends_below-clause-ok c =
-    let above = rw c.deref.ensures.value at c.ends_below.ensures in
-    (pushed _ _ c.args.x c.self.invariant (above.0 c.if-ends_below.true) (rw c.make_room.ensures at c.in_ok-push.ensures.items)).0 ∙ ap (put c.args.x) c.self.view_is
+    let above = rw c.as_slice.ensures at c.ends_below.ensures in
+    (pushed _ _ c.args.x c.self.invariant (above.0 c.if-ends_below.true) (rw c.make_room.ensures at c.in_ok-push.ensures.ok)).0 ∙ ap (put c.args.x) c.self.view_is
 
 pub returns-in-Ok-clause-ok : goal.returns-in-Ok-clause-ok
 returns-in-Ok-clause-ok c =
-    sym (rw c.self.view_is at (put_found _ c.args.x _ c.self.invariant (rw c.deref-2.ensures.value at c.in-Ok.ensures)))
+    sym (rw c.self.view_is at (put_found _ c.args.x _ c.self.invariant (rw c.as_slice-2.ensures at c.in-Ok.ensures)))
 
 pub invariant_of-self-in-Err : goal.invariant_of-self-in-Err
 invariant_of-self-in-Err c =
-    (inserted _ _ _ _ c.self.invariant (rw c.deref-2.ensures.value at c.in-Err.ensures) (rw c.make_room-in-Err.ensures at c.in_ok-insert-in-Err.ensures.items)).1
+    (inserted _ _ _ _ c.self.invariant (rw c.as_slice-2.ensures at c.in-Err.ensures) (rw c.make_room-in-Err.ensures at c.in_ok-insert-in-Err.ensures.ok)).1
 
 pub returns-in_ok-insert-in-Err-clause-ok : goal.returns-in_ok-insert-in-Err-clause-ok
 returns-in_ok-insert-in-Err-clause-ok c =
-    (inserted _ _ _ _ c.self.invariant (rw c.deref-2.ensures.value at c.in-Err.ensures) (rw c.make_room-in-Err.ensures at c.in_ok-insert-in-Err.ensures.items)).0
+    (inserted _ _ _ _ c.self.invariant (rw c.as_slice-2.ensures at c.in-Err.ensures) (rw c.make_room-in-Err.ensures at c.in_ok-insert-in-Err.ensures.ok)).0
     ∙ ap (put c.args.x) c.self.view_is
 
 pub returns-then-ends_below-clause-rises : goal.returns-then-ends_below-clause-rises
 returns-then-ends_below-clause-rises c =
-    let above = rw c.deref.ensures.value at c.ends_below.ensures in
-    (pushed _ _ c.args.x c.self.invariant (above.0 c.if-ends_below.true) (rw c.make_room.ensures at c.in_ok-push.ensures.items)).1
+    let above = rw c.as_slice.ensures at c.ends_below.ensures in
+    (pushed _ _ c.args.x c.self.invariant (above.0 c.if-ends_below.true) (rw c.make_room.ensures at c.in_ok-push.ensures.ok)).1
 
 pub returns-in_ok-insert-in-Err-clause-rises : goal.returns-in_ok-insert-in-Err-clause-rises
 returns-in_ok-insert-in-Err-clause-rises c =
-    (inserted _ _ _ _ c.self.invariant (rw c.deref-2.ensures.value at c.in-Err.ensures) (rw c.make_room-in-Err.ensures at c.in_ok-insert-in-Err.ensures.items)).1
+    (inserted _ _ _ _ c.self.invariant (rw c.as_slice-2.ensures at c.in-Err.ensures) (rw c.make_room-in-Err.ensures at c.in_ok-insert-in-Err.ensures.ok)).1
