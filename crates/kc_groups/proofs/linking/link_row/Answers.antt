@@ -1,10 +1,10 @@
-use Rattle.std.proofs.Common.{◌≡◌, ◌<◌, ◌≤◌, false, cond, ltb, length, get_or, ap, sym, ◌∙◌, arith}
+use Rattle.std.proofs.Common.{◌≡◌, ◌<◌, ◌≤◌, inl, inr, length, get_or, refl, ap, ◌∙◌, arith}
 use Rattle.kc_graph.specs.Shape.{neighbours_of}
 use Rattle.kc_graph.proofs.lemmas.Numbers.{length-rising}
 use Rattle.kc_groups.specs.private.Forest.{merged}
 use Rattle.kc_groups.specs.Gathering.{vertices}
 use Rattle.kc_groups.proofs.WorkLemmas.{vertex_at, vertex_inside, many}
-use Rattle.kc_groups.proofs.LinkLemmas.{row_first, row_last, row_past, place_below, row_link, not_below, is_below}
+use Rattle.kc_groups.proofs.LinkLemmas.{row_first, row_last, row_past, row_link}
 use Rattle.kc_groups.proofs.linking.link_row.Goals as goal
 use Rattle.kc_groups.proofs.linking.link_row.Goals.{then-other-place, else-other-place}
 
@@ -37,20 +37,18 @@ loop-w-preserved c =
     let h : c.args.place < length (vertices c.args.moves.now) = omega (arith, many c.args.moves.now, c.requires.inside) in
     let inside : c.loop-w.w-index < length c.neighbours-w-items.result.now = omega arith in
     let below : get_or c.neighbours-w-items.result.now c.loop-w.w-index 0 < c.args.graph.now.vertices = c.neighbours-w-items.ensures.below c.loop-w.w-index 0 inside in
-    let other = c.place_below-other.result in
-    let is : c.place_below-other.result ≡ place_below (vertices c.args.moves.now) c.args.places.now c.args.place (get_or c.neighbours-w-items.result.now c.loop-w.w-index 0) = c.place_below-other.ensures ∙ ap (λ u. cond (ltb (get_or items c.loop-w.w-index 0) u) (get_or places (get_or items c.loop-w.w-index 0) 0) place) c.prefetched_vertex-v.ensures in
+    let other = get_or places (get_or items c.loop-w.w-index 0) 0 in
     elim c.if-other-place.branch [
       | then-other-place w ↦
-          let at = is_below (λ i j. false) vs place items n places c.requires.numbered few h c.loop-w.w-index inside below (rw (sym is) w.if-other-place.true) in
           rw (w.parents-is) (
             w.join.ensures.sized ∙ old.0,
             (merged place other old.1.0, w.join.ensures.forest old.1.0 old.1.1),
             λ before g.
                 let so_far = old.2 before g in
-                row_link before vs place items now n places c.requires.numbered few h c.loop-w.w-index inside below so_far _ other (is ∙ at) w.if-other-place.true w.join.ensures.sized (w.join.ensures.forest so_far.roots so_far.forest),
+                row_link before vs place items now n places c.requires.numbered few h c.loop-w.w-index inside below so_far _ other refl w.if-other-place.true w.join.ensures.sized (w.join.ensures.forest so_far.roots so_far.forest),
           )
       | else-other-place w ↦
-          let high = not_below (λ i j. false) vs place items n places c.requires.numbered few h c.loop-w.w-index inside below (rw (sym is) (omega (arith, w.if-other-place.false))) in
+          let high : c.args.place ≤ get_or c.args.places.now (get_or c.neighbours-w-items.result.now c.loop-w.w-index 0) 0 = omega (arith, w.if-other-place.false) in
           rw (w.parents-is) (
             old.0,
             old.1,
@@ -63,4 +61,12 @@ returns c before g =
     let ms = c.args.moves.now in
     let vs = vertices c.args.moves.now in
     let is : c.neighbours-w-items.result.now ≡ neighbours_of (get_or (vertices c.args.moves.now) c.args.place 0) c.args.graph.now.edges = c.neighbours-w-items.ensures.value ∙ ap (λ v. neighbours_of v c.args.graph.now.edges) c.prefetched_vertex-v.ensures in
-    rw (many ms) at (row_last before vs c.args.place c.neighbours-w-items.result.now c.loop-w.parents.items c.args.graph.now c.loop-w.w-index (omega arith) is (c.loop-w.invariant.2 before (rw (many ms) g)))
+    rw (many ms) at (row_last before vs c.args.place c.neighbours-w-items.result.now c.loop-w.parents.items c.args.graph.now c.loop-w.w-index c.requires.numbered.rises c.neighbours-w-items.ensures.ascending (omega (arith, many ms, c.requires.inside)) (inl (omega arith)) is (c.loop-w.invariant.2 before (rw (many ms) g)))
+
+pub returns-then-w-v : goal.returns-then-w-v
+returns-then-w-v c before g =
+    let ms = c.args.moves.now in
+    let vs = vertices c.args.moves.now in
+    let is : c.neighbours-w-items.result.now ≡ neighbours_of (get_or (vertices c.args.moves.now) c.args.place 0) c.args.graph.now.edges = c.neighbours-w-items.ensures.value ∙ ap (λ v. neighbours_of v c.args.graph.now.edges) c.prefetched_vertex-v.ensures in
+    let cut : get_or (vertices c.args.moves.now) c.args.place 0 ≤ get_or c.neighbours-w-items.result.now c.loop-w.w-index 0 = omega (arith, c.prefetched_vertex-v.ensures, c.if-w-v.true) in
+    rw (many ms) at (row_last before vs c.args.place c.neighbours-w-items.result.now c.loop-w.parents.items c.args.graph.now c.loop-w.w-index c.requires.numbered.rises c.neighbours-w-items.ensures.ascending (omega (arith, many ms, c.requires.inside)) (inr (omega arith, cut)) is (c.loop-w.invariant.2 before (rw (many ms) g)))
