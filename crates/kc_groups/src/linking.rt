@@ -63,13 +63,15 @@ fn link_row(graph: &Graph, moves: &[Move], places: &[u32], parents: &mut Vec<u32
     ensures { Joins (length moves.now) (in_row graph.now (vertices moves.now) place) parents.old.items parents.new.items }
 {
     let v = prefetched_vertex(graph, moves, place);
+    // A place of the move's tree, mostly its root: from there the next join needn't look for the root again.
+    let mut tree = place;
     for w in graph.neighbours(v) {
         if *w >= v {
             return;
         }
         let other = places[*w as usize];
         if other < place {
-            join(parents, place, other);
+            tree = join(parents, tree, other);
         }
     }
 }
