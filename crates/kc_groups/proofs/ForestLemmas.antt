@@ -146,10 +146,6 @@ forest_same parents roots i j f e = subst (IsForest parents) (sym (unmoved roots
     unmoved [] = refl
     unmoved (r ∷ rs) = ap (λ k. k ∷ map (λ r. cond (eqb r (max (get_or roots i 0) (get_or roots j 0))) (min (get_or roots i 0) (get_or roots j 0)) r) rs) (stays r) ∙ ap (λ l. r ∷ l) (unmoved rs)
 
--- a root is its own root
-pub root_own : (parents roots : List ℕ) (i : ℕ) → IsForest parents roots → i < length parents → get_or roots (get_or roots i 0) 0 ≡ get_or roots i 0
-root_own parents roots i f h = f.own (get_or roots i 0) (omega (arith, f.low i h, h)) (f.root i h)
-
 -- a forest has one list of roots
 pub roots_one : (parents xs ys : List ℕ) → IsForest parents xs → IsForest parents ys → (k i : ℕ) → i < k → i < length parents → get_or xs i 0 ≡ get_or ys i 0
 roots_one parents xs ys f g zero i lt h = absurd (omega (arith, lt))
@@ -165,10 +161,7 @@ module _ (roots : List ℕ) (i j p : ℕ) (e : get_or roots p 0 ≡ get_or roots
 
   -- after a join of i they are so still, and their root is the lesser one
   pub merged_root : p < length roots → get_or (merged i j roots) p 0 ≡ min (get_or roots i 0) (get_or roots j 0)
-  merged_root h = get_or-map (under (max (get_or roots i 0) (get_or roots j 0)) (min (get_or roots i 0) (get_or roots j 0))) roots p 0 0 h ∙ ap (under (max (get_or roots i 0) (get_or roots j 0)) (min (get_or roots i 0) (get_or roots j 0))) e ∙ elim (cases_eq (get_or roots i 0) (max (get_or roots i 0) (get_or roots j 0))) [
-    | inl is ↦ under_same (max (get_or roots i 0) (get_or roots j 0)) (min (get_or roots i 0) (get_or roots j 0)) (get_or roots i 0) is
-    | inr ne ↦ under_other (max (get_or roots i 0) (get_or roots j 0)) (min (get_or roots i 0) (get_or roots j 0)) (get_or roots i 0) ne ∙ omega (arith, ne)
-  ]
+  merged_root h = get_or-map (under (max (get_or roots i 0) (get_or roots j 0)) (min (get_or roots i 0) (get_or roots j 0))) roots p 0 0 h ∙ ap (under (max (get_or roots i 0) (get_or roots j 0)) (min (get_or roots i 0) (get_or roots j 0))) e ∙ grind (arith, nat_tests, common_steps, under_other, under_same, roots)
 
 merged_many : (roots : List ℕ) (i j : ℕ) → length (merged i j roots) ≡ length roots
 merged_many roots i j = length-map roots (under (max (get_or roots i 0) (get_or roots j 0)) (min (get_or roots i 0) (get_or roots j 0)))
@@ -182,7 +175,8 @@ module _ (old new roots : List ℕ) (i j : ℕ) (m : IsForest new (merged i j ol
   pub joined_root : (r : ℕ) → r ≡ min (get_or old i 0) (get_or old j 0) → get_or roots r 0 ≡ get_or roots i 0
   joined_root r is =
       let own : r ≡ get_or roots i 0 = is ∙ sym (at i hi ∙ merged_root old i j i refl hi) in
-      ap (λ u. get_or roots u 0) own ∙ root_own new roots i f (omega (arith, m.sized, merged_many old i j, hi))
+      let inside : i < length new = omega (arith, m.sized, merged_many old i j, hi) in
+      ap (λ u. get_or roots u 0) own ∙ f.own (get_or roots i 0) (omega (arith, f.low i inside, inside)) (f.root i inside)
 
   -- a place that was in one tree with i still is
   pub joined_still : (p : ℕ) → p < length old → get_or old p 0 ≡ get_or old i 0 → get_or roots p 0 ≡ get_or roots i 0

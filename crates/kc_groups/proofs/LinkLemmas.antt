@@ -1,16 +1,16 @@
 -- What each link that is followed adds to the forest.
 use Rattle.std.proofs.Common.{ℕ, ◌+◌, ◌≤◌, ◌<◌, ◌≡◌, ◌≢◌, ◌⊎◌, inl, inr, Bool, true, false, ◌&&◌, ◌||◌, eqb, ltb, List, [], ◌∷◌, ◌++◌, length, get_or, take, refl, ap, sym, ◌∙◌, arith, add-one}
 use Rattle.std.proofs.Math.Seq.{take-suc, take-length}
-use Rattle.std.proofs.lemmas.Bool.{cases_Bool, cases_eq, cases_lt, or_left}
+use Rattle.std.proofs.lemmas.Bool.{cases_Bool, or_left}
 use Rattle.std.proofs.lemmas.Bool.Decides.{nat_tests}
 use Rattle.std.proofs.lemmas.Grind.{common_steps}
 use Rattle.kc_graph.specs.Numbers.{RisesFrom, has_number}
 use Rattle.kc_graph.specs.Shape.{GraphShape, Pair, neighbours_of, has_edge, same_edge}
-use Rattle.kc_graph.proofs.lemmas.Numbers.{has_number-push, has_number_index, rises_in_order}
+use Rattle.kc_graph.proofs.lemmas.Numbers.{has_number-push, has_number_index}
 use Rattle.kc_groups.specs.private.Forest.{IsForest, merged, AreGathered}
 use Rattle.kc_groups.specs.private.Gathering.{AreNumbered, is_near, in_row, in_edges}
 use Rattle.kc_groups.proofs.ForestLemmas.{gathered_same, gathered_more, gathered_one}
-use Rattle.kc_groups.proofs.ListLemmas.{rises_apart, low_first}
+use Rattle.kc_groups.proofs.ListLemmas.{rises_apart, rises_less, low_first}
 
 has_number-take : (x : ℕ) (xs : List ℕ) (p : ℕ) → p < length xs → has_number x (take (p + 1) xs) ≡ has_number x (take p xs) || eqb (get_or xs p 0) x
 has_number-take x xs p h = ap (λ k. has_number x (take k xs)) (add-one p) ∙ ap (has_number x) (take-suc xs p 0 h) ∙ has_number-push x (get_or xs p 0) (take p xs)
@@ -47,23 +47,12 @@ module _ (before : ℕ → ℕ → Bool) (vs : List ℕ) (place : ℕ) (items : 
 
   -- all are that are less than the mover
   pub all_so_far : (g : GraphShape) (p : ℕ) → RisesFrom 0 vs → RisesFrom 0 items → place < length vs → IsPassed vs place items p → items ≡ neighbours_of (get_or vs place 0) g.edges → (i j : ℕ) → j < length vs → (before i j || in_row g vs place i j) ≡ so_far before vs place items p i j
-  all_so_far g p rises up h passed is i j hj = elim (cases_eq i place) [
-    | inl e ↦ elim (cases_lt j place) [
-      | inl lt ↦ ap (λ b. before i j || (eqb i place && (ltb j i && b))) (ap (has_number (get_or vs j 0)) (sym is) ∙ first lt)
-      | inr ge ↦ grind (arith, nat_tests, e, ge)
-    ]
-    | inr ne ↦ grind (arith, nat_tests, ne)
-  ]
+  all_so_far g p rises up h passed is i j hj = grind (arith, nat_tests, common_steps, is, first)
     where
-      less : j < place → get_or vs j 0 < get_or vs place 0
-      less lt =
-          let ne : get_or vs j 0 ≢ get_or vs place 0 = λ e. absurd (omega (arith, rises_apart vs 0 j place rises hj h e, lt)) in
-          omega (arith, rises_in_order 0 vs j place rises (omega (arith, lt)) h, ne)
-
       first : j < place → has_number (get_or vs j 0) items ≡ has_number (get_or vs j 0) (take p items)
       first lt = elim passed [
         | inl whole ↦ ap (has_number (get_or vs j 0)) (sym (ap (λ k. take k items) whole ∙ take-length items))
-        | inr cut ↦ sym (low_first (get_or vs j 0) items 0 p up cut.0 (omega (arith, less lt, cut.1)))
+        | inr cut ↦ sym (low_first (get_or vs j 0) items 0 p up cut.0 (omega (arith, rises_less vs 0 j place rises lt h, cut.1)))
       ]
 
   module _ (n : ℕ) (places : List ℕ) (num : AreNumbered n vs places) (few : length vs ≤ n) (h : place < length vs) (p : ℕ) (inside : p < length items) (below : get_or items p 0 < n) where

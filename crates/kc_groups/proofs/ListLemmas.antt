@@ -72,6 +72,12 @@ rises_apart (x ∷ xs) low zero (suc j) up h k e = absurd (omega (arith, rises_a
 rises_apart (x ∷ xs) low (suc i) zero up h k e = absurd (omega (arith, rises_at_least (suc x) xs i up.1 (omega arith)))
 rises_apart (x ∷ xs) low (suc i) (suc j) up h k e = ap suc (rises_apart xs (suc x) i j up.1 (omega arith) (omega arith) e)
 
+pub rises_less : (xs : List ℕ) (low i j : ℕ) → RisesFrom low xs → i < j → j < length xs → get_or xs i 0 < get_or xs j 0
+rises_less [] low i j up lt h = absurd (omega arith)
+rises_less (x ∷ xs) low zero (suc j) up lt h = omega (arith, rises_at_least (suc x) xs j up.1 (omega arith))
+rises_less (x ∷ xs) low (suc i) (suc j) up lt h = rises_less xs (suc x) i j up.1 (omega arith) (omega arith)
+rises_less (x ∷ xs) low i zero up lt h = absurd (omega arith)
+
 -- a number below the one at place p is among the first p, if it is in the list
 pub low_first : (x : ℕ) (xs : List ℕ) (low p : ℕ) → RisesFrom low xs → p < length xs → x < get_or xs p 0 → has_number x (take p xs) ≡ has_number x xs
 low_first x [] low p up h lt = absurd (omega arith)

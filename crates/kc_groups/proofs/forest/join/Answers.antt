@@ -22,13 +22,6 @@ returns-clause-forest c roots f =
     rw (high, low)
     (forest_merged c.find-second.new.parents.items roots c.args.first c.args.second last (omega (arith, c.find-first.ensures.sized, c.find-second.ensures.sized, c.requires.first)) (omega (arith, c.find-first.ensures.sized, c.find-second.ensures.sized, c.requires.second)))
 
-pub returns-clause-inside : goal.returns-clause-inside
-returns-clause-inside c =
-    let roots = c.requires.forest.0 in
-    let f = c.requires.forest.1 in
-    let first : c.find-first.result ≡ get_or c.requires.forest.0 c.args.first 0 = c.find-first.ensures.root roots f in
-    omega (arith, first, f.low c.args.first c.requires.first, c.min-root.ensures, c.requires.first)
-
 pub returns-clause-same : goal.returns-clause-same
 returns-clause-same c roots f =
     let old = c.requires.forest.0 in
