@@ -1,5 +1,5 @@
 -- Forests over the places of a list: a place that points further up, and trees that come together.
-use Rattle.std.proofs.Common.{ℕ, ◌≤◌, ◌<◌, ◌≡◌, ◌≢◌, ◌⊎◌, inl, inr, Bool, true, false, ◌&&◌, ◌||◌, cond, eqb, max, min, List, [], ◌∷◌, length, get_or, set, map, refl, ap, sym, subst, ◌∙◌, arith}
+use Rattle.std.proofs.Common.{ℕ, ◌+◌, ◌≤◌, ◌<◌, ◌≡◌, ◌≢◌, ◌⊎◌, inl, inr, Bool, true, false, ◌&&◌, ◌||◌, cond, eqb, max, min, List, [], ◌∷◌, length, get_or, set, map, zero, suc, refl, ap, sym, subst, ◌∙◌, arith}
 use Rattle.std.proofs.lemmas.Bool.{cases_Bool, cases_eq, cases_lt, or_left}
 use Rattle.std.proofs.lemmas.Bool.Decides.{nat_tests}
 use Rattle.std.proofs.lemmas.List.{length-set, length-map, get_or-map, get_or-set_same, get_or-set_other}
@@ -145,6 +145,42 @@ forest_same parents roots i j f e = subst (IsForest parents) (sym (unmoved roots
     unmoved : (rs : List ℕ) → map (λ r. cond (eqb r (max (get_or roots i 0) (get_or roots j 0))) (min (get_or roots i 0) (get_or roots j 0)) r) rs ≡ rs
     unmoved [] = refl
     unmoved (r ∷ rs) = ap (λ k. k ∷ map (λ r. cond (eqb r (max (get_or roots i 0) (get_or roots j 0))) (min (get_or roots i 0) (get_or roots j 0)) r) rs) (stays r) ∙ ap (λ l. r ∷ l) (unmoved rs)
+
+-- a forest has one list of roots
+pub roots_one : (parents xs ys : List ℕ) → IsForest parents xs → IsForest parents ys → (k i : ℕ) → i < k → i < length parents → get_or xs i 0 ≡ get_or ys i 0
+roots_one parents xs ys f g zero i lt h = absurd (omega (arith, lt))
+roots_one parents xs ys f g (suc k) i lt h = elim (cases_eq (get_or parents i 0) i) [
+  | inl own ↦ f.own i h own ∙ sym (g.own i h own)
+  | inr ne ↦ sym (f.same i h) ∙ roots_one parents xs ys f g k (get_or parents i 0) (omega (arith, f.up i h, ne, lt)) (omega (arith, f.up i h, h)) ∙ g.same i h
+]
+
+-- places i and p are in one tree
+module _ (roots : List ℕ) (i j p : ℕ) (e : get_or roots p 0 ≡ get_or roots i 0) where
+  pub merged_near : merged p j roots ≡ merged i j roots
+  merged_near = ap (λ u. map (λ r. cond (eqb r (max u (get_or roots j 0))) (min u (get_or roots j 0)) r) roots) e
+
+  -- after a join of i they are so still, and their root is the lesser one
+  pub merged_root : p < length roots → get_or (merged i j roots) p 0 ≡ min (get_or roots i 0) (get_or roots j 0)
+  merged_root h = get_or-map (under (max (get_or roots i 0) (get_or roots j 0)) (min (get_or roots i 0) (get_or roots j 0))) roots p 0 0 h ∙ ap (under (max (get_or roots i 0) (get_or roots j 0)) (min (get_or roots i 0) (get_or roots j 0))) e ∙ grind (arith, nat_tests, common_steps, under_other, under_same, roots)
+
+merged_many : (roots : List ℕ) (i j : ℕ) → length (merged i j roots) ≡ length roots
+merged_many roots i j = length-map roots (under (max (get_or roots i 0) (get_or roots j 0)) (min (get_or roots i 0) (get_or roots j 0)))
+
+-- the forest after i and j were joined
+module _ (old new roots : List ℕ) (i j : ℕ) (m : IsForest new (merged i j old)) (f : IsForest new roots) (hi : i < length old) where
+  at : (q : ℕ) → q < length old → get_or roots q 0 ≡ get_or (merged i j old) q 0
+  at q h = roots_one new roots (merged i j old) f m (q + 1) q (omega arith) (omega (arith, m.sized, merged_many old i j, h))
+
+  -- the lesser root is the root of i
+  pub joined_root : (r : ℕ) → r ≡ min (get_or old i 0) (get_or old j 0) → get_or roots r 0 ≡ get_or roots i 0
+  joined_root r is =
+      let own : r ≡ get_or roots i 0 = is ∙ sym (at i hi ∙ merged_root old i j i refl hi) in
+      let inside : i < length new = omega (arith, m.sized, merged_many old i j, hi) in
+      ap (λ u. get_or roots u 0) own ∙ f.own (get_or roots i 0) (omega (arith, f.low i inside, inside)) (f.root i inside)
+
+  -- a place that was in one tree with i still is
+  pub joined_still : (p : ℕ) → p < length old → get_or old p 0 ≡ get_or old i 0 → get_or roots p 0 ≡ get_or roots i 0
+  joined_still p hp e = at p hp ∙ merged_root old i j p e hp ∙ sym (at i hi ∙ merged_root old i j i refl hi)
 
 module _ (m : ℕ) (before after : ℕ → ℕ → Bool) (parents : List ℕ) (g : AreGathered m before parents) where
   -- no link is new

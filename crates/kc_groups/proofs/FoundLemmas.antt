@@ -4,11 +4,12 @@ use Rattle.std.proofs.Math.Seq.{take-length}
 use Rattle.std.proofs.lemmas.Bool.Decides.{nat_tests}
 use Rattle.std.proofs.lemmas.List.Elements.{All-push}
 use Rattle.std.proofs.lemmas.Grind.{common_steps}
+use Rattle.kc_graph.specs.Numbers.{RisesFrom}
 use Rattle.kc_graph.specs.Shape.{GraphShape, Pair, neighbours_of, has_edge}
 use Rattle.kc_groups.specs.private.Forest.{IsForest, merged, AreGathered}
 use Rattle.kc_groups.specs.private.Gathering.{AreLinks, AreNumbered, in_row}
 use Rattle.kc_groups.proofs.ForestLemmas.{gathered_same, gathered_one}
-use Rattle.kc_groups.proofs.LinkLemmas.{has_edge-push, has_edge-take, so_far, none_so_far, all_so_far, past_so_far, link_so_far}
+use Rattle.kc_groups.proofs.LinkLemmas.{has_edge-push, has_edge-take, so_far, IsPassed, none_so_far, all_so_far, past_so_far, link_so_far}
 
 -- a list without links
 pub links_none : (m : ℕ) → AreLinks m (λ i j. false) []
@@ -40,8 +41,8 @@ module _ (before : ℕ → ℕ → Bool) (vs : List ℕ) (place : ℕ) (items : 
   pub found_first : AreLinks (length vs) before links → AreLinks (length vs) (so_far before vs place items 0) links
   found_first l = links_same (length vs) before (so_far before vs place items 0) links l (λ i j hi hj. none_so_far before vs place items i j)
 
-  pub found_last : (g : GraphShape) (p : ℕ) → p ≡ length items → items ≡ neighbours_of (get_or vs place 0) g.edges → AreLinks (length vs) (so_far before vs place items p) links → AreLinks (length vs) (λ i j. before i j || in_row g vs place i j) links
-  found_last g p whole is l = links_same (length vs) (so_far before vs place items p) (λ i j. before i j || in_row g vs place i j) links l (λ i j hi hj. all_so_far before vs place items g p whole is i j)
+  pub found_last : (g : GraphShape) (p : ℕ) → RisesFrom 0 vs → RisesFrom 0 items → place < length vs → IsPassed vs place items p → items ≡ neighbours_of (get_or vs place 0) g.edges → AreLinks (length vs) (so_far before vs place items p) links → AreLinks (length vs) (λ i j. before i j || in_row g vs place i j) links
+  found_last g p rises up h passed is l = links_same (length vs) (so_far before vs place items p) (λ i j. before i j || in_row g vs place i j) links l (λ i j hi hj. all_so_far before vs place items g p rises up h passed is i j hj)
 
   module _ (n : ℕ) (places : List ℕ) (num : AreNumbered n vs places) (few : length vs ≤ n) (h : place < length vs) (p : ℕ) (inside : p < length items) (below : get_or items p 0 < n) (l : AreLinks (length vs) (so_far before vs place items p) links) where
     pub found_past : place ≤ get_or places (get_or items p 0) 0 → AreLinks (length vs) (so_far before vs place items (p + 1)) links

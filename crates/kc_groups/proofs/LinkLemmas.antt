@@ -1,16 +1,16 @@
 -- What each link that is followed adds to the forest.
-use Rattle.std.proofs.Common.{ℕ, ◌+◌, ◌≤◌, ◌<◌, ◌≡◌, ◌≢◌, ◌⊎◌, inl, inr, Bool, true, false, cond, ◌&&◌, ◌||◌, eqb, ltb, List, [], ◌∷◌, ◌++◌, length, get_or, take, refl, ap, sym, ◌∙◌, arith, add-one}
+use Rattle.std.proofs.Common.{ℕ, ◌+◌, ◌≤◌, ◌<◌, ◌≡◌, ◌≢◌, ◌⊎◌, inl, inr, Bool, true, false, ◌&&◌, ◌||◌, eqb, ltb, List, [], ◌∷◌, ◌++◌, length, get_or, take, refl, ap, sym, ◌∙◌, arith, add-one}
 use Rattle.std.proofs.Math.Seq.{take-suc, take-length}
 use Rattle.std.proofs.lemmas.Bool.{cases_Bool, or_left}
 use Rattle.std.proofs.lemmas.Bool.Decides.{nat_tests}
 use Rattle.std.proofs.lemmas.Grind.{common_steps}
-use Rattle.kc_graph.specs.Numbers.{has_number}
+use Rattle.kc_graph.specs.Numbers.{RisesFrom, has_number}
 use Rattle.kc_graph.specs.Shape.{GraphShape, Pair, neighbours_of, has_edge, same_edge}
 use Rattle.kc_graph.proofs.lemmas.Numbers.{has_number-push, has_number_index}
 use Rattle.kc_groups.specs.private.Forest.{IsForest, merged, AreGathered}
 use Rattle.kc_groups.specs.private.Gathering.{AreNumbered, is_near, in_row, in_edges}
 use Rattle.kc_groups.proofs.ForestLemmas.{gathered_same, gathered_more, gathered_one}
-use Rattle.kc_groups.proofs.ListLemmas.{rises_apart, rises_order}
+use Rattle.kc_groups.proofs.ListLemmas.{rises_apart, rises_less, low_first}
 
 has_number-take : (x : ℕ) (xs : List ℕ) (p : ℕ) → p < length xs → has_number x (take (p + 1) xs) ≡ has_number x (take p xs) || eqb (get_or xs p 0) x
 has_number-take x xs p h = ap (λ k. has_number x (take k xs)) (add-one p) ∙ ap (has_number x) (take-suc xs p 0 h) ∙ has_number-push x (get_or xs p 0) (take p xs)
@@ -36,18 +36,24 @@ place_of n vs places v num h low few = elim (cases_Bool (has_number v vs)) [
 abbrev pub so_far : (ℕ → ℕ → Bool) → List ℕ → ℕ → List ℕ → ℕ → ℕ → ℕ → Bool
 so_far before vs place items p i j = before i j || (eqb i place && is_near vs (take p items) i j)
 
--- the place of w, if w is less than the mover at `place`, and else this place
-abbrev pub place_below : List ℕ → List ℕ → ℕ → ℕ → ℕ
-place_below vs places place w = cond (ltb w (get_or vs place 0)) (get_or places w 0) place
+-- no neighbour from the p-th on is less than the mover at `place`
+abbrev pub IsPassed : List ℕ → ℕ → List ℕ → ℕ → Type 0
+IsPassed vs place items p = (p ≡ length items) ⊎ ((p < length items) × (get_or vs place 0 ≤ get_or items p 0))
 
 module _ (before : ℕ → ℕ → Bool) (vs : List ℕ) (place : ℕ) (items : List ℕ) where
   -- no neighbour is looked at
   pub none_so_far : (i j : ℕ) → so_far before vs place items 0 i j ≡ before i j
   none_so_far i j = grind (arith, nat_tests, common_steps)
 
-  -- all are
-  pub all_so_far : (g : GraphShape) (p : ℕ) → p ≡ length items → items ≡ neighbours_of (get_or vs place 0) g.edges → (i j : ℕ) → (before i j || in_row g vs place i j) ≡ so_far before vs place items p i j
-  all_so_far g p whole is i j = grind (arith, nat_tests, common_steps, take-length)
+  -- all are that are less than the mover
+  pub all_so_far : (g : GraphShape) (p : ℕ) → RisesFrom 0 vs → RisesFrom 0 items → place < length vs → IsPassed vs place items p → items ≡ neighbours_of (get_or vs place 0) g.edges → (i j : ℕ) → j < length vs → (before i j || in_row g vs place i j) ≡ so_far before vs place items p i j
+  all_so_far g p rises up h passed is i j hj = grind (arith, nat_tests, common_steps, is, first)
+    where
+      first : j < place → has_number (get_or vs j 0) items ≡ has_number (get_or vs j 0) (take p items)
+      first lt = elim passed [
+        | inl whole ↦ ap (has_number (get_or vs j 0)) (sym (ap (λ k. take k items) whole ∙ take-length items))
+        | inr cut ↦ sym (low_first (get_or vs j 0) items 0 p up cut.0 (omega (arith, rises_less vs 0 j place rises lt h, cut.1)))
+      ]
 
   module _ (n : ℕ) (places : List ℕ) (num : AreNumbered n vs places) (few : length vs ≤ n) (h : place < length vs) (p : ℕ) (inside : p < length items) (below : get_or items p 0 < n) where
     grown : (i j : ℕ) → so_far before vs place items (p + 1) i j ≡ so_far before vs place items p i j || (eqb i place && (ltb j i && eqb (get_or items p 0) (get_or vs j 0)))
@@ -57,25 +63,6 @@ module _ (before : ℕ → ℕ → Bool) (vs : List ℕ) (place : ℕ) (items : 
     pub past_so_far : place ≤ get_or places (get_or items p 0) 0 → (i j : ℕ) → j < length vs → so_far before vs place items (p + 1) i j ≡ so_far before vs place items p i j
     past_so_far high i j hj = grind (arith, nat_tests, common_steps, grown, num.at)
 
-    -- a neighbour that isn't less than the mover has no lesser place
-    place_past : get_or vs place 0 ≤ get_or items p 0 → place ≤ get_or places (get_or items p 0) 0
-    place_past up = elim (cases_Bool (has_number (get_or items p 0) vs)) [
-      | inl there ↦
-          let at = has_number_index (get_or items p 0) vs there in
-          let is : get_or places (get_or items p 0) 0 ≡ at.0 = ap (λ u. get_or places u 0) (sym at.2) ∙ num.at at.0 at.1 in
-          let order : place ≤ at.0 = rises_order vs 0 place at.0 num.rises h at.1 (omega (arith, at.2, up)) in
-          omega (arith, is, order)
-      | inr out ↦ omega (arith, num.none (get_or items p 0) below out, h, few)
-    ]
-
-    -- what isn't less than the mover's place stands for no lesser place
-    pub not_below : place ≤ place_below vs places place (get_or items p 0) → place ≤ get_or places (get_or items p 0) 0
-    not_below high = grind (arith, nat_tests, common_steps, place_past)
-
-    -- what is less is the neighbour's place
-    pub is_below : place_below vs places place (get_or items p 0) < place → place_below vs places place (get_or items p 0) ≡ get_or places (get_or items p 0) 0
-    is_below low = grind (arith, nat_tests, common_steps)
-
     -- the neighbour moves and has a lesser place
     pub link_so_far : (other : ℕ) → other ≡ get_or places (get_or items p 0) 0 → other < place → (i j : ℕ) → j < length vs → so_far before vs place items (p + 1) i j ≡ so_far before vs place items p i j || (eqb i place && eqb j other)
     link_so_far other is less i j hj = grind (arith, nat_tests, common_steps, grown, place_of, rises_apart, num.rises)
@@ -84,8 +71,8 @@ module _ (before : ℕ → ℕ → Bool) (vs : List ℕ) (place : ℕ) (items : 
   pub row_first : AreGathered (length vs) before parents → AreGathered (length vs) (so_far before vs place items 0) parents
   row_first a = gathered_same (length vs) before (so_far before vs place items 0) parents a (λ i j hi hj. none_so_far before vs place items i j)
 
-  pub row_last : (g : GraphShape) (p : ℕ) → p ≡ length items → items ≡ neighbours_of (get_or vs place 0) g.edges → AreGathered (length vs) (so_far before vs place items p) parents → AreGathered (length vs) (λ i j. before i j || in_row g vs place i j) parents
-  row_last g p whole is a = gathered_same (length vs) (so_far before vs place items p) (λ i j. before i j || in_row g vs place i j) parents a (λ i j hi hj. all_so_far before vs place items g p whole is i j)
+  pub row_last : (g : GraphShape) (p : ℕ) → RisesFrom 0 vs → RisesFrom 0 items → place < length vs → IsPassed vs place items p → items ≡ neighbours_of (get_or vs place 0) g.edges → AreGathered (length vs) (so_far before vs place items p) parents → AreGathered (length vs) (λ i j. before i j || in_row g vs place i j) parents
+  row_last g p rises up h passed is a = gathered_same (length vs) (so_far before vs place items p) (λ i j. before i j || in_row g vs place i j) parents a (λ i j hi hj. all_so_far before vs place items g p rises up h passed is i j hj)
 
   module _ (n : ℕ) (places : List ℕ) (num : AreNumbered n vs places) (few : length vs ≤ n) (h : place < length vs) (p : ℕ) (inside : p < length items) (below : get_or items p 0 < n) where
     pub row_past : AreGathered (length vs) (so_far before vs place items p) parents → place ≤ get_or places (get_or items p 0) 0 → AreGathered (length vs) (so_far before vs place items (p + 1)) parents

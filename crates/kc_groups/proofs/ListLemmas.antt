@@ -1,5 +1,5 @@
 -- The lists of labels and of moves, over plain lists.
-use Rattle.std.proofs.Common.{ℕ, suc, zero, ◌≤◌, ◌<◌, ◌≡◌, inl, inr, Bool, true, false, eqb, List, [], ◌∷◌, length, get_or, map, refl, ap, sym, ◌∙◌, arith, subst}
+use Rattle.std.proofs.Common.{ℕ, suc, zero, ◌≤◌, ◌<◌, ◌≡◌, inl, inr, Bool, true, false, ◌||◌, eqb, List, [], ◌∷◌, length, get_or, take, map, refl, ap, sym, ◌∙◌, arith, subst}
 use Rattle.std.specs.List.{All, Contains}
 use Rattle.std.proofs.lemmas.Bool.{cases_eq}
 use Rattle.std.proofs.lemmas.Bool.Decides.{nat_tests}
@@ -7,7 +7,7 @@ use Rattle.std.proofs.lemmas.List.{map_push}
 use Rattle.std.proofs.lemmas.List.Elements.{Contains-push, Contains-append_left}
 use Rattle.std.proofs.lemmas.Grind.{common_steps}
 use Rattle.kc_graph.specs.Numbers.{RisesFrom, AllBelow, has_number}
-use Rattle.kc_graph.proofs.lemmas.Numbers.{rises_at_least, has_number-push}
+use Rattle.kc_graph.proofs.lemmas.Numbers.{rises_at_least, has_number-push, has_number_below}
 use Rattle.kc_levels.specs.declared.moves.Move.{Move}
 use Rattle.kc_levels.specs.Moved.{pushed_if, move_of}
 use Rattle.kc_levels.proofs.lemmas.Moves.{rises_push, below_push, below_next, all_pushed}
@@ -72,9 +72,14 @@ rises_apart (x ∷ xs) low zero (suc j) up h k e = absurd (omega (arith, rises_a
 rises_apart (x ∷ xs) low (suc i) zero up h k e = absurd (omega (arith, rises_at_least (suc x) xs i up.1 (omega arith)))
 rises_apart (x ∷ xs) low (suc i) (suc j) up h k e = ap suc (rises_apart xs (suc x) i j up.1 (omega arith) (omega arith) e)
 
--- a place that has no greater number isn't later
-pub rises_order : (xs : List ℕ) (low i j : ℕ) → RisesFrom low xs → i < length xs → j < length xs → get_or xs i 0 ≤ get_or xs j 0 → i ≤ j
-rises_order [] low i j up h k le = absurd (omega arith)
-rises_order (x ∷ xs) low zero j up h k le = omega arith
-rises_order (x ∷ xs) low (suc i) zero up h k le = absurd (omega (arith, rises_at_least (suc x) xs i up.1 (omega arith), le))
-rises_order (x ∷ xs) low (suc i) (suc j) up h k le = grind (arith, nat_tests, common_steps, rises_order xs (suc x) i j up.1 (omega arith) (omega arith) le, up.1)
+pub rises_less : (xs : List ℕ) (low i j : ℕ) → RisesFrom low xs → i < j → j < length xs → get_or xs i 0 < get_or xs j 0
+rises_less [] low i j up lt h = absurd (omega arith)
+rises_less (x ∷ xs) low zero (suc j) up lt h = omega (arith, rises_at_least (suc x) xs j up.1 (omega arith))
+rises_less (x ∷ xs) low (suc i) (suc j) up lt h = rises_less xs (suc x) i j up.1 (omega arith) (omega arith)
+rises_less (x ∷ xs) low i zero up lt h = absurd (omega arith)
+
+-- a number below the one at place p is among the first p, if it is in the list
+pub low_first : (x : ℕ) (xs : List ℕ) (low p : ℕ) → RisesFrom low xs → p < length xs → x < get_or xs p 0 → has_number x (take p xs) ≡ has_number x xs
+low_first x [] low p up h lt = absurd (omega arith)
+low_first x (y ∷ ys) low zero up h lt = sym (has_number_below y x (y ∷ ys) (omega arith, up.1) lt)
+low_first x (y ∷ ys) low (suc p) up h lt = ap (λ b. eqb y x || b) (low_first x ys (suc y) p up.1 (omega arith) lt)

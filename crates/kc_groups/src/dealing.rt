@@ -47,6 +47,10 @@ pub(crate) fn open_groups(
 // The number of entries that are prefetched together: the entries and their lists lie anywhere in memory.
 const TOGETHER: usize = 16;
 
+// The number of entries from which on they are prefetched. Fewer stay in the near caches by themselves, and it takes
+// longer to look for them than to wait for them.
+const LEAST_PREFETCHED: usize = 4_096;
+
 // Prefetches the end of the entry's moves: loads the last move. Returns true, since each move of the entry is of one of
 // n vertices. The compiler can't know that, so it keeps the load.
 fn prefetch_last_move(entry: &Entry, n: usize) -> bool
@@ -59,7 +63,8 @@ fn prefetch_last_move(entry: &Entry, n: usize) -> bool
     }
 }
 
-// Returns the place of the vertex of move k. At every 16th move, first prefetches the entries of the next 16.
+// Returns the place of the vertex of move k. At every 16th move, first prefetches the entries of the next 16 if there
+// are many entries.
 fn prefetched_move_place(moves: &[Move], places: &[u32], entries: &[Entry], k: usize) -> u32
     requires inside { k < length moves.now }
     requires placed { All (λ m. (m.vertex < length places.now) × (slice_index places.now m.vertex < length entries.now)) moves.now }
@@ -67,7 +72,7 @@ fn prefetched_move_place(moves: &[Move], places: &[u32], entries: &[Entry], k: u
     ensures { result ≡ slice_index places.now (slice_index (vertices moves.now) k) }
 {
     let place = places[moves[k].vertex as usize];
-    if k % TOGETHER > 0 {
+    if k % TOGETHER > 0 || entries.len() < LEAST_PREFETCHED {
         return place;
     }
     for i in k..moves.len().min(k + TOGETHER) {
@@ -122,7 +127,8 @@ fn prefetch_last_edge(entry: &Entry) -> bool
     }
 }
 
-// Returns the place of edge k (`place_at`). At every 16th edge, first prefetches the entries of the next 16.
+// Returns the place of edge k (`place_at`). At every 16th edge, first prefetches the entries of the next 16 if there
+// are many entries.
 fn prefetched_edge_place(edges: &[Edge], places: &[u32], entries: &[Entry], k: usize) -> u32
     requires small { length places.now ≤ MAX_VERTICES }
     requires inside { k < length edges.now }
@@ -130,7 +136,7 @@ fn prefetched_edge_place(edges: &[Edge], places: &[u32], entries: &[Entry], k: u
     ensures { result ≡ edge_place (length places.now) places.now (get_or edges.now k (0, 0)) }
 {
     let place = place_at(places, edges[k]);
-    if k % TOGETHER > 0 {
+    if k % TOGETHER > 0 || entries.len() < LEAST_PREFETCHED {
         return place;
     }
     for i in k..edges.len().min(k + TOGETHER) {

@@ -22,21 +22,26 @@ fn find(parents: &mut Vec<u32>, place: u32) -> u32
     at
 }
 
-// Makes one tree of the trees of two places, under the lesser of their roots.
-pub(crate) fn join(parents: &mut Vec<u32>, first: u32, second: u32)
+// Makes one tree of the trees of two places, under the lesser of their roots. Returns a place of that tree, its root
+// unless the two have the same parent.
+pub(crate) fn join(parents: &mut Vec<u32>, first: u32, second: u32) -> u32
     requires first { first < length parents.old.items }
     requires second { second < length parents.old.items }
     requires forest { (roots : List ℕ) × IsForest parents.old.items roots }
     ensures forest { (roots : List ℕ) → IsForest parents.old.items roots → IsForest parents.new.items (merged first second roots) }
     ensures sized { length parents.new.items ≡ length parents.old.items }
+    ensures inside { result < length parents.old.items }
+    ensures same { (roots : List ℕ) → IsForest parents.new.items roots → slice_index roots result ≡ slice_index roots first }
 {
     // Two places with the same parent are in one tree already. Most are, so this test saves the stores.
     if parents[first as usize] == parents[second as usize] {
-        return;
+        return first;
     }
     let first = find(parents, first);
     let second = find(parents, second);
-    parents[first.max(second) as usize] = first.min(second);
+    let root = first.min(second);
+    parents[first.max(second) as usize] = root;
+    root
 }
 
 // Joins the two places of each link.

@@ -1,5 +1,5 @@
 //! The moves of a phase, gathered into a tree for each group, and the links between them.
-ghost use Rattle.std.specs.Prelude.{◌≡◌, ℕ, List, ◌<◌, ◌≤◌, IfOk, OnOk, cond, false, true, length, nat_lt, slice_index};
+ghost use Rattle.std.specs.Prelude.{◌≡◌, ℕ, List, ◌<◌, ◌≤◌, IfOk, OnOk, false, true, length, slice_index};
 ghost use Rattle.kc_graph.specs.Shape.{EdgesFrom};
 ghost use Rattle.kc_groups.specs.private.Forest.{AreGathered, IsForest, Joins};
 ghost use Rattle.kc_groups.specs.Gathering.{vertices};
@@ -51,19 +51,10 @@ fn prefetched_vertex(graph: &Graph, moves: &[Move], place: u32) -> u32
     moves[place as usize].vertex
 }
 
-// Returns the place of w if w is less than v, and else `place`. Here v is the vertex of the move at `place`, and w is a
-// neighbour of v.
-//
-// The result is less than `place` only if w moves and has a lesser place. No greater vertex has a lesser place, since
-// the vertices of the moves ascend.
-fn place_below(places: &[u32], v: u32, w: u32, place: u32) -> u32
-    requires { w < length places.now }
-    ensures { result ≡ cond (nat_lt w v) (slice_index places.now w) place }
-{
-    if w < v { places[w as usize] } else { place }
-}
-
 // Joins the move at `place` with those of its neighbours at lesser places.
+//
+// Neighbours and moves ascend by vertex. So the lesser neighbours come first, and no greater one has a lesser place. A
+// neighbour that doesn't move has the number of vertices for its place.
 fn link_row(graph: &Graph, moves: &[Move], places: &[u32], parents: &mut Vec<u32>, place: u32)
     requires inside { place < length moves.now }
     requires numbered { AreNumbered graph.now.vertices (vertices moves.now) places.now }
@@ -72,10 +63,15 @@ fn link_row(graph: &Graph, moves: &[Move], places: &[u32], parents: &mut Vec<u32
     ensures { Joins (length moves.now) (in_row graph.now (vertices moves.now) place) parents.old.items parents.new.items }
 {
     let v = prefetched_vertex(graph, moves, place);
+    // A place of the move's tree, mostly its root: from there the next join needn't look for the root again.
+    let mut tree = place;
     for w in graph.neighbours(v) {
-        let other = place_below(places, v, *w, place);
+        if *w >= v {
+            return;
+        }
+        let other = places[*w as usize];
         if other < place {
-            join(parents, place, other);
+            tree = join(parents, tree, other);
         }
     }
 }
@@ -112,7 +108,10 @@ fn find_links(
 {
     let v = prefetched_vertex(graph, moves, place);
     for w in graph.neighbours(v) {
-        let other = place_below(places, v, *w, place);
+        if *w >= v {
+            return Ok(());
+        }
+        let other = places[*w as usize];
         if other < place {
             links.push(Edge { a: other, b: place })?;
         }

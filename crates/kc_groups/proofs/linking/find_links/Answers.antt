@@ -1,9 +1,8 @@
-use Rattle.std.proofs.Common.{◌≡◌, ◌<◌, ◌≤◌, cond, ltb, length, get_or, ap, sym, ◌∙◌, arith}
+use Rattle.std.proofs.Common.{◌≡◌, ◌<◌, ◌≤◌, inl, inr, length, get_or, refl, ap, ◌∙◌, arith}
 use Rattle.kc_graph.specs.Shape.{neighbours_of}
 use Rattle.kc_graph.proofs.lemmas.Numbers.{length-rising}
 use Rattle.kc_groups.specs.Gathering.{vertices}
 use Rattle.kc_groups.proofs.WorkLemmas.{vertex_at, vertex_inside, many}
-use Rattle.kc_groups.proofs.LinkLemmas.{place_below, not_below, is_below}
 use Rattle.kc_groups.proofs.FoundLemmas.{found_first, found_last, found_past, found_link}
 use Rattle.kc_groups.proofs.linking.find_links.Goals as goal
 use Rattle.kc_groups.proofs.linking.find_links.Goals.{then-other-place+in_ok-push, else-other-place}
@@ -28,13 +27,10 @@ loop-w-preserved c before l =
     let h : c.args.place < length (vertices c.args.moves.now) = omega (arith, many c.args.moves.now, c.requires.inside) in
     let inside : c.loop-w.w-index < length c.neighbours-w-items.result.now = omega arith in
     let below : get_or c.neighbours-w-items.result.now c.loop-w.w-index 0 < c.args.graph.now.vertices = c.neighbours-w-items.ensures.below c.loop-w.w-index 0 inside in
-    let is : c.place_below-other.result ≡ place_below (vertices c.args.moves.now) c.args.places.now c.args.place (get_or c.neighbours-w-items.result.now c.loop-w.w-index 0) = c.place_below-other.ensures ∙ ap (λ u. cond (ltb (get_or items c.loop-w.w-index 0) u) (get_or places (get_or items c.loop-w.w-index 0) 0) place) c.prefetched_vertex-v.ensures in
     elim c.if-other-place.branch [
-      | then-other-place+in_ok-push w ↦
-          let at = is_below before vs place items n places c.requires.numbered few h k inside below (rw (sym is) w.if-other-place.true) in
-          rw (w.links-is, w.in_ok-push.ensures.items) (found_link before vs place items now n places c.requires.numbered few h k inside below so_far c.place_below-other.result (is ∙ at) w.if-other-place.true)
+      | then-other-place+in_ok-push w ↦ rw (w.links-is, w.in_ok-push.ensures.items) (found_link before vs place items now n places c.requires.numbered few h k inside below so_far (get_or places (get_or items k 0) 0) refl w.if-other-place.true)
       | else-other-place w ↦
-          let high = not_below before vs place items n places c.requires.numbered few h k inside below (rw (sym is) (omega (arith, w.if-other-place.false))) in
+          let high : c.args.place ≤ get_or c.args.places.now (get_or c.neighbours-w-items.result.now c.loop-w.w-index 0) 0 = omega (arith, w.if-other-place.false) in
           rw (w.links-is) (found_past before vs place items now n places c.requires.numbered few h k inside below so_far high)
     ]
 
@@ -43,4 +39,12 @@ returns c before l =
     let ms = c.args.moves.now in
     let vs = vertices c.args.moves.now in
     let is : c.neighbours-w-items.result.now ≡ neighbours_of (get_or (vertices c.args.moves.now) c.args.place 0) c.args.graph.now.edges = c.neighbours-w-items.ensures.value ∙ ap (λ v. neighbours_of v c.args.graph.now.edges) c.prefetched_vertex-v.ensures in
-    rw (many ms) at (found_last before vs c.args.place c.neighbours-w-items.result.now c.loop-w.links.items c.args.graph.now c.loop-w.w-index (omega arith) is (c.loop-w.invariant before (rw (many ms) l)))
+    rw (many ms) at (found_last before vs c.args.place c.neighbours-w-items.result.now c.loop-w.links.items c.args.graph.now c.loop-w.w-index c.requires.numbered.rises c.neighbours-w-items.ensures.ascending (omega (arith, many ms, c.requires.inside)) (inl (omega arith)) is (c.loop-w.invariant before (rw (many ms) l)))
+
+pub returns-then-w-v : goal.returns-then-w-v
+returns-then-w-v c before l =
+    let ms = c.args.moves.now in
+    let vs = vertices c.args.moves.now in
+    let is : c.neighbours-w-items.result.now ≡ neighbours_of (get_or (vertices c.args.moves.now) c.args.place 0) c.args.graph.now.edges = c.neighbours-w-items.ensures.value ∙ ap (λ v. neighbours_of v c.args.graph.now.edges) c.prefetched_vertex-v.ensures in
+    let cut : get_or (vertices c.args.moves.now) c.args.place 0 ≤ get_or c.neighbours-w-items.result.now c.loop-w.w-index 0 = omega (arith, c.prefetched_vertex-v.ensures, c.if-w-v.true) in
+    rw (many ms) at (found_last before vs c.args.place c.neighbours-w-items.result.now c.loop-w.links.items c.args.graph.now c.loop-w.w-index c.requires.numbered.rises c.neighbours-w-items.ensures.ascending (omega (arith, many ms, c.requires.inside)) (inr (omega arith, cut)) is (c.loop-w.invariant before (rw (many ms) l)))

@@ -1,4 +1,4 @@
-use Rattle.std.proofs.Common.{ℕ, ◌≡◌, Bool, List, length}
+use Rattle.std.proofs.Common.{ℕ, ◌≡◌, ◌<◌, Bool, List, length, get_or}
 use Rattle.kc_groups.specs.private.Forest.{IsForest, AreGathered}
 use Rattle.kc_groups.specs.Gathering.{vertices}
 use Rattle.kc_groups.proofs.LinkLemmas.{so_far}
@@ -8,4 +8,6 @@ abbrev pub invariant-loop-w : goal.invariant-loop-w
 invariant-loop-w l =
     (length l.parents.items ≡ length l.moves)
     × ((roots : List ℕ) × IsForest l.parents.items roots)
+    × (l.tree < length l.parents.items)
+    × ((roots : List ℕ) → IsForest l.parents.items roots → get_or roots l.place 0 ≡ get_or roots l.tree 0)
     × ((before : ℕ → ℕ → Bool) → AreGathered (length (vertices l.moves)) before l.initial.parents.items → AreGathered (length (vertices l.moves)) (so_far before (vertices l.moves) l.place l.w-items l.w-index) l.parents.items)
