@@ -21,8 +21,9 @@ use std::marker::Model;
 use std::thread;
 use std::thread::Threads;
 
-// If there is an edge for every fourth vertex, a pass over all vertices replaces the look at each edge's ends.
-const LEAST_SHARE: usize = 4;
+// If there is an edge for every 16th vertex, a pass over all vertices replaces the look at each edge's ends. It takes a
+// nanosecond a vertex, and a look at an end some 20.
+const LEAST_SHARE: usize = 16;
 
 /// What ranges follow when a phase begins. Contracts see it as a `Following`.
 #[derive(Drop)]
@@ -174,8 +175,8 @@ fn file_all<R: Threads + Sync>(
 }
 
 /// Copies the fresh counts of the ends of the edges. An end whose count changed, and is more than its band allows, is
-/// filed once, by its level. If there is an edge for every fourth vertex or more, looks at all vertices, by threads if
-/// there are ranges. Fails only if memory runs out.
+/// filed once, by its level. If there is an edge for every 16th vertex or more, looks at all vertices. Threads share
+/// them if there are ranges and the edges are many (`Layout::threads`). Fails only if memory runs out.
 pub fn file_ends<R: Threads + Sync, G: Gate + Sync>(
     rounds: &Rounds<R, G>,
     fresh: &Fresh<'_>,
@@ -189,11 +190,7 @@ pub fn file_ends<R: Threads + Sync, G: Gate + Sync>(
     if edges.len() < fresh.counts.len() / LEAST_SHARE {
         return file_each_end(fresh, ranges, edges);
     }
-    let threads = if ranges.items.len() > 1 {
-        rounds.workers() as usize
-    } else {
-        1
-    };
+    let threads = ranges.layout.threads(edges.len(), rounds.workers());
     file_all(rounds.runtime(), threads, fresh, ranges)?;
     Ok(())
 }

@@ -45,16 +45,16 @@ pub struct Tally {
 ///
 /// One sweep goes through the levels, from the lowest up, and stops at each where a vertex waits, is met or may stay.
 /// Threads sweep ranges of vertices if the graph has at least 32,768 vertices and much is to do on a level. At least
-/// 16,384 vertices begin or stay there then; a quarter of the meetings counts with these. There is one thread for each
-/// 8,192 of them, and at most one for each range and for each worker of `rounds`. Else the caller sweeps the ranges.
+/// 4,096 vertices begin or stay there then; a quarter of the meetings counts with these. There is one thread for each
+/// 2,048 of them, and at most one for each range and for each worker of `rounds`. Else the caller sweeps the ranges.
 ///
 /// The first list of candidates in the life of `work` that isn't empty is cut into as many pieces as there are workers.
 /// If it is short, there are fewer. The gate hears of each piece. No answer depends on the workers nor on the gate.
 ///
 /// Some looks aren't counted. A rising vertex takes at most three for each neighbour that stood above it when it began.
 /// Each range takes one on each level where the sweep stops, and so do 64 levels that are passed over. The vertices
-/// that rose are sorted. If there is an edge for every fourth vertex or more, all counts are compared, by threads if
-/// there are ranges. Else no pass goes over all vertices.
+/// that rose are sorted. If there is an edge for every 16th vertex or more, all counts are compared. Threads share that
+/// if there are ranges and at least 4,096 edges. Else no pass goes over all vertices.
 ///
 /// Takes memory for the vertices that wait or rose and for their moves. Besides it takes 8 bytes for each neighbour
 /// that stood above a rising vertex. On one level at a time it takes 8 for each neighbour that hears of a vertex;

@@ -18,8 +18,8 @@ const MOST_RANGES: u32 = 64;
 const LEAST_CUT: u32 = 32_768;
 
 // The fewest vertices, to begin or to stay, for which threads are made. To make four takes as long as to go through the
-// rows of some thousand vertices.
-const LEAST_SHARED: usize = 16_384;
+// rows of a thousand vertices.
+const LEAST_SHARED: usize = 4_096;
 
 /// How the vertices are cut into ranges of 2 ^ `bits` that follow each other, and when threads share a pass over the
 /// ranges.

@@ -340,16 +340,18 @@ impl Ranges {
         forget_each(alloc, &mut self.items);
     }
 
-    /// Returns how at most `workers` threads share a pass over `count` vertices.
+    /// Returns how at most `workers` threads share a pass over `count` vertices. One thread alone hears the lists as
+    /// they are.
     pub fn sharing(&self, count: usize, workers: u32) -> Sharing
         requires { 1 ≤ workers }
         ensures { result.layout.bits ≡ self.now.bits }
     {
         let layout = self.layout;
+        let threads = layout.threads(count, workers);
         Sharing {
             layout,
-            is_dealt: self.items.len() > 1 && layout.is_shared(count),
-            threads: layout.threads(count, workers),
+            is_dealt: threads > 1 && self.items.len() > 1,
+            threads,
         }
     }
 
