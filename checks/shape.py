@@ -77,7 +77,7 @@ def skip_generics(text, at):
 def places_in(path):
     """Kind, place and what is there."""
     with open(os.path.join(TOP, path), encoding="utf-8") as file:
-        text = re.sub(r"(?m)^\s*//.*$", "", file.read())
+        text = re.sub(r"(?m)^[ \t]*//.*$", "", file.read())
     line_of = lambda at: text.count("\n", 0, at) + 1
     for name, at, parameters, clauses in functions(text):
         where = f"{path}:{line_of(at)} {name}"

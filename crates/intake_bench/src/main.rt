@@ -29,7 +29,7 @@ const CAPACITY: u32 = 1024;
 // Items have vertices below this.
 const VERTICES: u32 = 100_000;
 
-// A script of `count` insertions.
+// Returns a script of `count` insertions.
 fn make_script(alloc: Global, random: &mut Random, count: u32) -> Result<Vec<Item>, AllocError> {
     let mut script = Vec::with_capacity(alloc, count as usize)?;
     for _i in 0..count {
@@ -39,7 +39,7 @@ fn make_script(alloc: Global, random: &mut Random, count: u32) -> Result<Vec<Ite
     Ok(script)
 }
 
-// Senders of these clients, each with a script of `each` insertions.
+// Returns senders of these clients, each with a script of `each` insertions.
 fn make_senders<'a>(
     alloc: Global,
     intake: &'a Intake,
@@ -57,7 +57,7 @@ fn make_senders<'a>(
     Ok(senders)
 }
 
-// The time in which a server drains `count` updates of the senders. Fails unless these are all updates.
+// Returns the time in which a server drains `count` updates of the senders. Fails unless these are all updates.
 fn time_exchange<R: Threads + Wait + Sync + Clock>(
     rt: &R,
     server: &mut Server<'_>,
@@ -71,7 +71,7 @@ fn time_exchange<R: Threads + Wait + Sync + Clock>(
     Ok(time)
 }
 
-// The time in which a server drains all updates of clients that submit `each` items.
+// Returns the time in which a server drains all updates of clients that submit `each` items.
 fn time_updates<R: Threads + Wait + Sync + Clock>(
     rt: &R,
     alloc: Global,

@@ -203,6 +203,7 @@ pub fn par_lift_counts<R: Threads + Sync, L: Ledger>(
                 write_down(lift, counts, rest, passed, steps);
                 rest = &rest[passed.visits.len()..];
             }
+            // Never: all pieces are made.
             Err(_) => unreachable!(),
         }
     }

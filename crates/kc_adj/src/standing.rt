@@ -11,7 +11,7 @@ use kc_levels::Thresholds;
 pub struct Standing<'a> {
     /// The graph with its levels.
     pub adj: &'a LevelAdj,
-    /// How many neighbours each group of levels needs.
+    /// How many neighbours each band of levels needs.
     pub th: &'a Thresholds,
     /// The vertex.
     pub v: u32,

@@ -1,4 +1,7 @@
 //! What a line does at its place in a run text.
+//!
+//! Each function `x_turn` is the program of the definition `x_step` (`Documents`). A definition gives the run after the
+//! line, and the function changes the run of a [`Draft`].
 ghost use Rattle.std.specs.Prelude.{◌≡◌, ℕ, ◌<◌, ◌≤◌, List, length, drop, Some, IfOk, OnOk};
 ghost use Rattle.kc_text.specs.Words.{words};
 ghost use Rattle.kc_audit.specs.Runs.{IsAuditable};
@@ -117,6 +120,7 @@ fn is_next(last: u32, number: u32) -> bool
     u64::from(number) == u64::from(last) + 1
 }
 
+// Takes the line of a batch; `left` are the phases that may follow in it.
 fn batch_turn(place: Place, batch: u32, left: PhasesLeft) -> Turn
     ensures { (run : RunText) → batch_step run place batch left ≡ step_told run result }
 {
@@ -131,6 +135,7 @@ fn batch_turn(place: Place, batch: u32, left: PhasesLeft) -> Turn
     }
 }
 
+// Returns the phases that may follow a phase that inserts (`add`) or deletes, or None if the phase may not come.
 fn left_after(left: PhasesLeft, add: bool) -> Option<PhasesLeft>
     ensures { result ≡ left_after left add }
 {
@@ -143,6 +148,7 @@ fn left_after(left: PhasesLeft, add: bool) -> Option<PhasesLeft>
     }
 }
 
+// Takes the line of a phase that inserts (`add`) or deletes.
 fn phase_turn(place: Place, phase: u32, add: bool) -> Turn
     ensures { (run : RunText) → phase_step run place phase add ≡ step_told run result }
 {
@@ -231,6 +237,7 @@ fn replies_turn(draft: &mut Draft, text: &[u8], from: usize) -> Result<Turn, All
     Ok(Turn::Go(Stage::Readers))
 }
 
+// Takes the line of a reader, whose replies begin at `from`.
 fn reader_turn(draft: &mut Draft, reader: u32, text: &[u8], from: usize) -> Result<Turn, AllocError>
     requires { from ≤ length text.now }
     ensures step { IfOk result (λ turn. reader_step draft.old.run reader (words (drop from text.now)) ≡ step_told draft.new.run turn) }
@@ -242,6 +249,7 @@ fn reader_turn(draft: &mut Draft, reader: u32, text: &[u8], from: usize) -> Resu
     replies_turn(draft, text, from)
 }
 
+// Takes the line of vertex v if `next` is due.
 fn vertex_turn(run: &RunText, next: u32, v: u32) -> Turn
     ensures { vertex_step run.now next v ≡ step_told run.now result }
 {
@@ -252,6 +260,7 @@ fn vertex_turn(run: &RunText, next: u32, v: u32) -> Turn
     }
 }
 
+// Takes a line after the batches: the next reader, or the first vertex.
 fn readers_turn(draft: &mut Draft, line: &FormLine<'_>) -> Result<Turn, AllocError>
     requires { IsWithin line.now.text.now line.now.form }
     ensures step { IfOk result (λ turn. readers_step draft.old.run (kind_told line.now.text.now line.now.form) ≡ step_told draft.new.run turn) }
@@ -264,6 +273,7 @@ fn readers_turn(draft: &mut Draft, line: &FormLine<'_>) -> Result<Turn, AllocErr
     }
 }
 
+// Takes a line after the line of a batch, or before the first: it may also be any line after the batches.
 fn batches_turn(draft: &mut Draft, place: Place, line: &FormLine<'_>) -> Result<Turn, AllocError>
     requires { IsWithin line.now.text.now line.now.form }
     ensures step { IfOk result (λ turn. batches_step draft.old.run place (kind_told line.now.text.now line.now.form) ≡ step_told draft.new.run turn) }
@@ -277,7 +287,8 @@ fn batches_turn(draft: &mut Draft, place: Place, line: &FormLine<'_>) -> Result<
     }
 }
 
-// Takes a line after the line of a phase or of one of its groups; the next label is at least `low`.
+// Takes a line after the line of a phase or of one of its groups; the next label is at least `low`. It may also be any
+// line that ends the phase.
 fn groups_turn(
     draft: &mut Draft,
     place: Place,
@@ -300,6 +311,7 @@ fn groups_turn(
     members_turn(&mut draft.run, place, label, &draft.members)
 }
 
+// Takes a line after the line of a vertex: that of vertex `next`, or `end` after the last one.
 fn vertices_turn(run: &RunText, next: u32, form: Form) -> Turn
     ensures { (text : List ℕ) → vertices_step run.now next (kind_told text form) ≡ step_told run.now result }
 {
@@ -310,6 +322,7 @@ fn vertices_turn(run: &RunText, next: u32, form: Form) -> Turn
     }
 }
 
+// Takes what follows `end`: only the end of the input fits.
 fn closed_turn(run: &RunText, form: Form) -> Turn
     ensures { (text : List ℕ) → closed_step run.now (kind_told text form) ≡ step_told run.now result }
 {

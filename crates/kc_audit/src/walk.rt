@@ -1,8 +1,8 @@
 //! The walk through the history of a run, with all its readers side by side.
 //!
 //! At each point a reader passes its next replies as long as each has the level of its vertex there. So each reply gets
-//! the earliest point that it may have, and a reply that gets none has none. `told` counts the replies that each reader
-//! has passed.
+//! the earliest point that it may have, and a reply that gets none has none. `passed` has the number of replies that
+//! each reader has passed.
 //!
 //! A reader whose next reply doesn't fit waits until the vertex of that reply moves. `awaited` is true for each vertex
 //! with a waiting reader. So a group costs no pass over the readers if none of its members is awaited.
@@ -34,34 +34,34 @@ fn next_unfit(levels: &[u16], replies: &[Reply], from: usize) -> usize
 
 // Moves each reader on over the replies that have the present levels. The vertex of a reader that moves is no longer
 // awaited.
-fn go_on(levels: &[u16], awaited: &mut [bool], readers: &[Replies], told: &mut [usize])
+fn go_on(levels: &[u16], awaited: &mut [bool], readers: &[Replies], passed: &mut [usize])
     requires below { All (AreBelow (length levels.now)) readers.now }
     requires sized { length awaited.old ≡ length levels.now }
-    requires within { AreWithin readers.now told.old }
-    ensures { EachGoesOn levels.now readers.now told.old told.new }
+    requires within { AreWithin readers.now passed.old }
+    ensures { EachGoesOn levels.now readers.now passed.old passed.new }
 {
     for reader in 0..readers.len() {
         let replies = readers[reader].as_slice();
-        let from = told[reader];
+        let from = passed[reader];
         let at = next_unfit(levels, replies, from);
         if from < at {
             awaited[replies[from].vertex as usize] = false;
         }
-        told[reader] = at;
+        passed[reader] = at;
     }
 }
 
 // Marks the next vertex of each reader with a reply left as awaited. Returns whether there is such a reader.
-fn wait(awaited: &mut [bool], readers: &[Replies], told: &[usize]) -> bool
+fn wait(awaited: &mut [bool], readers: &[Replies], passed: &[usize]) -> bool
     requires below { All (AreBelow (length awaited.old)) readers.now }
-    requires within { AreWithin readers.now told.now }
-    ensures awaited { IsAwaited awaited.new readers.now told.now }
-    ensures none { result ≡ false → HaveTold readers.now told.now }
+    requires within { AreWithin readers.now passed.now }
+    ensures awaited { IsAwaited awaited.new readers.now passed.now }
+    ensures none { result ≡ false → HaveTold readers.now passed.now }
 {
     let mut waits = false;
     for reader in 0..readers.len() {
         let replies = readers[reader].as_slice();
-        let next = told[reader];
+        let next = passed[reader];
         if next < replies.len() {
             awaited[replies[next].vertex as usize] = true;
             waits = true;
@@ -86,18 +86,18 @@ fn show(levels: &mut [u16], awaited: &[bool], members: &[Reply]) -> bool
     met
 }
 
-// Returns the verdict if each reader has passed the number of its replies in `told`, and can pass no more.
-fn verdict_of(readers: &[Replies], told: &[usize]) -> AuditVerdict
-    requires within { AreWithin readers.now told.now }
+// Returns the verdict if each reader has passed the number of its replies in `passed`, and can pass no more.
+fn verdict_of(readers: &[Replies], passed: &[usize]) -> AuditVerdict
+    requires within { AreWithin readers.now passed.now }
     requires few { length readers.now ≤ 4294967294 }
     requires asks { All (λ rs. length rs ≤ 4294967294) readers.now }
-    ensures { Tells readers.now told.now result }
+    ensures { Tells readers.now passed.now result }
 {
     for reader in 0..readers.len() {
-        if told[reader] < readers[reader].len() {
+        if passed[reader] < readers[reader].len() {
             return AuditVerdict::Unexplained {
                 reader: reader as u32,
-                ask: told[reader] as u32 + 1,
+                ask: passed[reader] as u32 + 1,
             };
         }
     }
@@ -106,36 +106,41 @@ fn verdict_of(readers: &[Replies], told: &[usize]) -> AuditVerdict
 
 // Moves each reader on at the present levels, and then marks the vertex of its next reply as awaited. Returns whether a
 // reader waits.
-fn tell(levels: &[u16], awaited: &mut [bool], readers: &[Replies], told: &mut [usize]) -> bool
+fn advance(levels: &[u16], awaited: &mut [bool], readers: &[Replies], passed: &mut [usize]) -> bool
     requires below { All (AreBelow (length levels.now)) readers.now }
     requires sized { length awaited.old ≡ length levels.now }
-    requires within { AreWithin readers.now told.old }
-    ensures told { EachGoesOn levels.now readers.now told.old told.new }
-    ensures awaited { IsAwaited awaited.new readers.now told.new }
-    ensures none { result ≡ false → HaveTold readers.now told.new }
+    requires within { AreWithin readers.now passed.old }
+    ensures passed { EachGoesOn levels.now readers.now passed.old passed.new }
+    ensures awaited { IsAwaited awaited.new readers.now passed.new }
+    ensures none { result ≡ false → HaveTold readers.now passed.new }
 {
-    go_on(levels, awaited, readers, told);
-    wait(awaited, readers, told)
+    go_on(levels, awaited, readers, passed);
+    wait(awaited, readers, passed)
 }
 
 // Walks through the history, from levels that are 0 and readers that have passed nothing.
-fn walk(run: &RunText, levels: &mut [u16], awaited: &mut [bool], told: &mut [usize]) -> AuditVerdict
+fn walk(
+    run: &RunText,
+    levels: &mut [u16],
+    awaited: &mut [bool],
+    passed: &mut [usize],
+) -> AuditVerdict
     requires run { IsAuditable run.now }
     requires levels { levels.old ≡ replicate run.now.vertices 0 }
     requires awaited { length awaited.old ≡ run.now.vertices }
-    requires told { told.old ≡ replicate (length run.now.readers) 0 }
+    requires passed { passed.old ≡ replicate (length run.now.readers) 0 }
     ensures { IsVerdict run.now result }
 {
     let readers = run.readers.as_slice();
-    let mut waits = tell(levels, awaited, readers, told);
+    let mut waits = advance(levels, awaited, readers, passed);
     let mut point = 0;
     while waits && point < run.groups.len() {
         if show(levels, awaited, run.groups.members(point)) {
-            waits = tell(levels, awaited, readers, told);
+            waits = advance(levels, awaited, readers, passed);
         }
         point += 1;
     }
-    verdict_of(readers, told)
+    verdict_of(readers, passed)
 }
 
 /// Returns whether the group lines of a run explain the replies of each of its readers, as `IsVerdict` of
@@ -151,6 +156,6 @@ pub fn audit(alloc: Global, run: &RunText) -> Result<AuditVerdict, AllocError>
 {
     let mut levels = vec![in alloc; 0u16; run.vertices as usize]?;
     let mut awaited = vec![in alloc; false; run.vertices as usize]?;
-    let mut told = vec![in alloc; 0usize; run.readers.len()]?;
-    Ok(walk(run, &mut levels, &mut awaited, &mut told))
+    let mut passed = vec![in alloc; 0usize; run.readers.len()]?;
+    Ok(walk(run, &mut levels, &mut awaited, &mut passed))
 }

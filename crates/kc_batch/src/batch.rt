@@ -238,6 +238,7 @@ pub fn next_batch<S: Source>(
     match find_batch(alloc, reader, src, &mut sink, rules) {
         Ok(next) => Ok(next),
         Err(AwaitFault::ReadFault) => Err(BatchFault::ReadFault),
+        // Never: a `NullSink` has no faults.
         Err(AwaitFault::WriteFault) => unreachable!(),
         Err(AwaitFault::Memory(e)) => Err(BatchFault::Memory(e)),
     }

@@ -79,6 +79,7 @@ fn unsigned(first: &[u8], u: Option<u32>, v: Option<u32>) -> Kind
     }
 }
 
+// Returns the meaning of a line of one word.
 #[tactic(auto, unfolding(crate::specs::Tokens::kind_of_words))]
 fn kind_of_one(word: &[u8]) -> Kind
     ensures { result ≡ kind_of_words (word.now ∷ []) }
@@ -92,6 +93,7 @@ fn kind_of_one(word: &[u8]) -> Kind
     }
 }
 
+// Returns the meaning of a line of two words.
 #[tactic(auto, unfolding(crate::specs::Tokens::kind_of_words))]
 fn kind_of_two(first: &[u8], second: &[u8]) -> Kind
     ensures { result ≡ kind_of_words (first.now ∷ second.now ∷ []) }
@@ -111,6 +113,7 @@ fn signed(sign: &[u8], u: Option<u32>, v: Option<u32>) -> Kind
     }
 }
 
+// Returns the meaning of a line of three words.
 #[tactic(auto, unfolding(crate::specs::Tokens::kind_of_words))]
 fn kind_of_three(first: &[u8], second: &[u8], third: &[u8]) -> Kind
     ensures { result ≡ kind_of_words (first.now ∷ second.now ∷ third.now ∷ []) }

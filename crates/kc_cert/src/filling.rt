@@ -6,7 +6,7 @@ use kc_graph::{Edge, Graph, MAX_EDGES};
 use std::alloc::{AllocError, Global};
 
 // The most edges that wait.
-const TOGETHER: usize = 1_048_576;
+const MOST_WAITING: usize = 1_048_576;
 
 /// Puts the waiting edges, which follow those of the graph, into it. Costs what `Graph::insert_all` costs. Fails only
 /// if memory runs out.
@@ -36,7 +36,7 @@ pub fn add_edge(
     ensures vertices { OnOk result (graph.new.vertices ≡ graph.old.vertices) }
     ensures edges { OnOk result (graph.new.edges ++ waiting.new.items ≡ (graph.old.edges ++ waiting.old.items) ++ edge ∷ []) }
 {
-    if waiting.len() >= TOGETHER {
+    if waiting.len() >= MOST_WAITING {
         let_in(alloc, graph, waiting)?;
     }
     waiting.push(edge)?;

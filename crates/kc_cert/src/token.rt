@@ -133,6 +133,7 @@ fn kind_of_line(name: &[u8], rest: &[u8]) -> Kind
     }
 }
 
+// Returns what a line of this text says.
 #[tactic(auto, unfolding(crate::specs::Tokens::kind_of_words))]
 fn kind_of_text(text: &[u8]) -> Kind
     ensures { result ≡ kind_of_words (words text.now) }

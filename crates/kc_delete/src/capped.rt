@@ -10,7 +10,7 @@ use kc_levels::Thresholds;
 pub struct Capped<'a> {
     /// The graph with its levels.
     pub adj: &'a LevelAdj,
-    /// How many neighbours each group of levels needs.
+    /// How many neighbours each band of levels needs.
     pub th: &'a Thresholds,
     ghost within: { IsWithin th.now adj.now.graph adj.now.levels },
 }

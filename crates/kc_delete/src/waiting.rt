@@ -81,7 +81,7 @@ fn take_least(alloc: Global, filed: &mut LevelLists<u32>, first: &mut u16) -> Ve
     filed.take_all(alloc, level)
 }
 
-// Of the candidates, lets only the movers wait on.
+// Lets only the movers among the candidates wait on.
 fn keep_marks(marks: &mut Vec<bool>, candidates: &[u32], movers: &[u32])
     requires candidates { All (λ v. v < length marks.old.items) candidates.now }
     requires movers { All (λ v. v < length marks.old.items) movers.now }

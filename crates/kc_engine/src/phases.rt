@@ -98,6 +98,7 @@ impl PhasedGraph {
         let mut steps = Steps::<L>::new(blank);
         let deletion = &mut work.deletion;
         let moves = delete_phase(rounds, th, adj, deletion, edges, &mut steps)?;
+        // The workspace of insertions follows what the deletions changed, and so stays ready.
         work.insertion.follow(adj, edges, &moves);
         let leaving = Phase {
             number: phase,
@@ -148,6 +149,7 @@ impl PhasedGraph {
         let mut steps = Steps::<L>::new(blank);
         let insertion = &mut work.insertion;
         let moves = insert_phase(rounds, th, adj, insertion, edges, &mut steps)?;
+        // The workspace of deletions follows what the insertions changed, and so stays ready.
         work.deletion.follow(&moves);
         let coming = Phase {
             number: phase,

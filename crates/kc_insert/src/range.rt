@@ -77,7 +77,8 @@ fn stop_watched(
     Ok(())
 }
 
-// Lessens the count of each vertex that the ranges told to this one, once for each time. Fails only if memory runs out.
+// Takes one from the count of a vertex for each time that a range named it to this one (`heard_by`). Fails only if
+// memory runs out.
 fn hear_each(watched: &mut WatchedCounts, told: &[Told], own: usize) -> Result<(), AllocError>
     requires lists { All (λ t. own < length t.lists) told.now }
     requires held { (v : ℕ) → has_number v (heard_by own told.now) ≡ true → HasVertex watched.old v }
@@ -188,8 +189,8 @@ impl Range {
         Ok(())
     }
 
-    /// Adds one to the count of each vertex of the list, all on the level, for each time that it is there. It waits on
-    /// the level if it then counts more than `most`. Fails only if memory runs out.
+    /// Adds one to the count of a vertex for each time that it is in the list, whose vertices are all on `level`. A
+    /// vertex that then counts more than `most` waits there. Fails only if memory runs out.
     pub fn meet_all(&mut self, level: u16, most: u32, vertices: &[u32]) -> Result<(), AllocError>
         requires held { (v : ℕ) → has_number v vertices.now ≡ true → HasVertex self.old.watch v }
         requires small { (v : ℕ) → count_at self.old.watch v + times v vertices.now ≤ 2 ^ 31 }
@@ -202,8 +203,8 @@ impl Range {
         Ok(())
     }
 
-    /// Lessens the count of each vertex that the ranges told to this one, once for each time. Fails only if memory runs
-    /// out.
+    /// Takes one from the count of a vertex for each time that a range named it to this one (`heard_by`). Fails only if
+    /// memory runs out.
     pub fn hear_less(&mut self, told: &[Told], own: usize) -> Result<(), AllocError>
         requires { CanHearLess told.now own self.old }
         ensures { OnOk result (HasHeardLess (heard_by own told.now) self.old self.new) }
@@ -221,8 +222,8 @@ impl Range {
         }
     }
 
-    /// Adds one to the count of each vertex that the ranges told to this one, all on the level, for each time. It waits
-    /// there if it then counts more than `most`. Fails only if memory runs out.
+    /// Adds one to the count of a vertex for each time that a range named it to this one (`heard_by`). All of these are
+    /// on `level`. A vertex that then counts more than `most` waits there. Fails only if memory runs out.
     pub fn hear_more(
         &mut self,
         told: &[Told],

@@ -1,4 +1,7 @@
-//! All ranges of a graph, and the passes over them: by threads where there is much to do.
+//! All ranges of a graph, and the passes over them: by threads if there is much to do.
+//!
+//! A loop over the ranges is a function over their slice, which a method calls. So its proof knows nothing of the other
+//! fields.
 
 ghost use Rattle.std.specs.Prelude.{◌≡◌, ◌+◌, ◌-◌, ◌*◌, ◌++◌, ◌<◌, ◌≤◌, ◌^◌, ℕ, [], false, true, All, IfOk, OnOk, length, slice_index_or, sum_by};
 ghost use Rattle.std.specs.List.{flat_map};

@@ -79,8 +79,8 @@ impl InsertionWork {
         })
     }
 
-    /// Makes it ready for the graph after a deletion phase, if it was ready before (`StaysReady`). The edges were taken
-    /// out, and the moves are those of the phase.
+    /// Makes the workspace ready for the graph after a deletion phase, if it was ready before (`StaysReady`). The edges
+    /// were taken out, and the moves are those of the phase.
     ///
     /// Costs two looks an edge, and one for each moved vertex and each of its neighbours. Takes no memory.
     pub fn follow(&mut self, adj: &LevelAdj, removed: &[Edge], moves: &Moves)

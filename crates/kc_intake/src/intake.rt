@@ -182,6 +182,7 @@ impl<I: Invariant> Intake<I> {
         ensures prefix { IsPrefix (updates_of client.number (all_updates drainer.new.taken)) (updates_in (submitted client)) }
     {
         self.queue.absorb::<TakesIn>(&mut drainer.pass, client.pass);
+        // By this step the drainer learns that what was drained of the client is what it sent first.
         self.queue.learn_as::<Compares<I>>(&mut drainer.pass);
     }
 }

@@ -6,7 +6,7 @@ use crate::Spot;
 ///
 /// A gate promises nothing but to return: no result of the crates that call it depends on what it does.
 pub trait Gate {
-    /// Called at each spot, by the thread that has reached it.
+    /// Is called at each spot, by the thread that has reached it.
     fn at(&self, spot: Spot);
 }
 

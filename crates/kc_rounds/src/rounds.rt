@@ -20,7 +20,7 @@ pub struct FirstRound {
 }
 
 impl FirstRound {
-    /// Makes one for which no round has been. Takes no memory.
+    /// Makes the state before any round. Takes no memory.
     pub fn new() -> Self {
         FirstRound { is_ahead: true }
     }

@@ -35,6 +35,7 @@ pub(crate) fn plan_and_show<R: Threads + Sync>(
     let _graph = engine.graph();
     let (rt, gate) = (rounds.runtime(), rounds.gate());
     let plan = engine.plan(rt, rounds.alloc(), gate, cleaned)?;
+    // Evidence for the check: the phases of the plan continue the writer's history.
     phases_continue();
     engine.show(rt, gate, store, writer, &plan);
     Ok(plan)

@@ -43,7 +43,9 @@ use std::thread::Threads;
 pub struct Service<'a, R> {
     // The runtime that starts the threads of a batch.
     rt: &'a R,
+    // Gives the memory of batches, readers and answers.
     alloc: Global,
+    // The graph with its levels.
     engine: Engine,
     // The store and the thresholds, which the readers share.
     board: Arc<Board, Global>,

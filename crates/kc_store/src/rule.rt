@@ -23,7 +23,7 @@ impl TableRule<u8, Role, Size> for Rule {
     ghost first = { λ k. first_role k.vertices k.before };
 }
 
-// The plan of the phase that a step begins. The call picks it.
+// The plan of the phase that a step begins. The proof of a call that passes `Brand` picks it.
 pub(crate) trait Planned {
     ghost use Rattle.kc_groups.specs.declared.plans.PhasePlan.{PhasePlan};
 
@@ -169,7 +169,7 @@ impl Play<u8, Role> for Tells {
     ghost then = { told };
 }
 
-// The range that is lent. The call picks it.
+// The range that is lent. The proof of a call that passes `Brand` picks it.
 pub(crate) trait Ranged {
     ghost use Rattle.std.specs.Prelude.{ℕ};
 

@@ -37,6 +37,7 @@ impl Model for Writer {
 }
 
 impl Writer {
+    // Does what `begin` does. `J` stands for the plan in the rule of the table, which sees types and no values.
     fn begin_as<J: Planned>(&mut self, store: &Store, plan: &PhasePlan)
         requires table { self.old.table ≡ store.now.table }
         requires begins { MayBegin self.old.state plan.now }
@@ -141,9 +142,11 @@ impl Writer {
             .table
             .shared
             .join_seat::<TakesBack>(&mut self.seat, seat);
+        // The value isn't needed: by this step the writer learns that the part is a beginning of the history.
         store.table.shared.load::<Tells>(&mut self.seat, 0);
     }
 
+    // Does what `lend` does. `J` stands for the range in the rule of the table, which sees types and no values.
     fn lend_as<J: Ranged>(&mut self, store: &Store, g: u32, from: u32, to: u32) -> Marker
         requires table { self.old.table ≡ store.now.table }
         requires moves { HasRange self.old.state.plan g to }

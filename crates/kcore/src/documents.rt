@@ -59,7 +59,7 @@ pub trait Document {
         ensures text { WritesDocument is_document last.now (K.taken sink.old) (K.taken sink.new) result }
         ensures cause { WriteCause (K.faults sink.old) (K.faults sink.new) result };
 
-    /// A law; the function does nothing: each state has a document.
+    /// Does nothing. Its contract is a law: each state has a document.
     fn has_documents()
         ensures { HasDocuments is_document };
 }

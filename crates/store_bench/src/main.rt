@@ -4,7 +4,8 @@
 //! no times. With any word it measures stores of several sizes, and prints a line for each measurement. The line says
 //! what was measured, on how many vertices, how many loads, reads or moves there were, and their nanoseconds together.
 //!
-//! `plans` makes the phases that are shown, `showing` shows them, `reading` reads, and `measuring` takes the times.
+//! `plans` makes the phases that are shown, `showing` shows them, `reading` reads, `timing` takes the times, and
+//! `measuring` prints them.
 #![tactic(auto)]
 
 ghost use Rattle.std.specs.Prelude.{◌≤◌};
@@ -13,6 +14,7 @@ mod measuring;
 mod plans;
 mod reading;
 mod showing;
+mod timing;
 
 use measuring::{Sizes, print_opening, print_reads};
 use std::env;

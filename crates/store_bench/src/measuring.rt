@@ -1,4 +1,4 @@
-//! Loads of an array, reads of a store and moves in it are timed, and each measurement is printed in a line.
+//! The measurements: loads of an array, reads of a store and moves in it are timed, and each is printed in a line.
 ghost use Rattle.std.specs.Prelude.{◌≡◌, ◌≤◌, All};
 ghost use Rattle.std.specs.Thread.{IsSync};
 ghost use Rattle.kc_graph.specs.declared.limits.TheConstants.{MAX_VERTICES};
@@ -6,15 +6,19 @@ ghost use Rattle.kc_groups.specs.WellFormed.{IsWellFormed};
 ghost use Rattle.store_bench.specs.private.Showing.{ArePlans, IsFresh};
 
 use crate::plans::make_plans;
-use crate::reading::{Reader, by_chance, make_readers, run_loads, run_readers};
-use crate::showing::{mark, may_begin, show, show_all, show_next};
+use crate::reading::{Reader, by_chance, make_readers};
+use crate::showing::{mark, may_begin, show, show_next};
+use crate::timing::{
+    now, since, time_loads, time_ones, time_opening, time_readers, time_writer, time_zeroing,
+    words_of,
+};
 use anyhow::ensure;
 use kc_groups::PhasePlan;
 use kc_store::{Store, Writer};
 use std::alloc::Global;
 use std::thread;
 use std::thread::Threads;
-use std::time::{Clock, Duration, Instant};
+use std::time::{Clock, Duration};
 
 /// How much is measured: the number of vertices, how many reads a reader has, and how many plans a writer shows.
 #[derive(Clone, Copy)]
@@ -44,48 +48,9 @@ struct Bench<'a, R> {
     ghost few: { vertices ≤ MAX_VERTICES },
 }
 
-// The time now.
-fn now(rt: &impl Clock) -> anyhow::Result<Instant> {
-    Ok(Instant::now(rt)?)
-}
-
-// The time that has passed since then.
-fn since(rt: &impl Clock, start: Instant) -> anyhow::Result<Duration> {
-    Ok(start.elapsed(rt)?)
-}
-
-// The readers read, and this is the time that it takes.
-fn time_readers<R: Threads + Sync + Clock>(
-    rt: &R,
-    order: &[u32],
-    readers: &mut [Reader<'_>],
-) -> anyhow::Result<Duration> {
-    let start = now(rt)?;
-    run_readers(rt, order, readers);
-    since(rt, start)
-}
-
-// The writer shows the plans, and this is the time that it takes.
-fn time_writer<R: Clock>(
-    rt: &R,
-    store: &Store,
-    writer: &mut Writer,
-    n: u32,
-    plans: &[PhasePlan],
-) -> anyhow::Result<Duration>
-    requires fresh { IsFresh n store.now writer.old }
-    requires formed { All (IsWellFormed n) plans.now }
-{
-    let start = now(rt)?;
-    let shown = show_all(store, writer, n, plans);
-    let time = since(rt, start)?;
-    ensure!(shown, "a plan can't begin");
-    Ok(time)
-}
-
 impl<'a, R: Threads + Sync + Clock + Print> Bench<'a, R> {
-    // Prints what was measured and by how many threads at once. Then how many loads, reads or moves there were, and the
-    // time that they took together.
+    // Prints a line: what was measured, by how many threads at once, of how many vertices, and how many loads, reads or
+    // moves that were. If `timed`, the line ends with the time of all of them.
     fn print(&self, what: &str, threads: u32, count: u64, time: Duration) -> anyhow::Result<()> {
         let rt = self.rt;
         if self.timed {
@@ -100,44 +65,22 @@ impl<'a, R: Threads + Sync + Clock + Print> Bench<'a, R> {
         Ok(())
     }
 
-    // Prints the same of `threads` threads of which each takes the vertices in order.
+    // Prints the line of `threads` threads, each of which takes all vertices of `order`.
     fn print_each(&self, what: &str, threads: u32, time: Duration) -> anyhow::Result<()> {
         let count = u64::from(threads).saturating_mul(self.order.len() as u64);
         self.print(what, threads, count, time)
     }
 
-    // The threads load, and this is the time that it takes. All words are 1.
-    fn time_loads(&self, words: &[u64], sums: &mut [u64]) -> anyhow::Result<Duration> {
-        let start = now(self.rt)?;
-        run_loads(self.rt, words, self.order, sums);
-        let time = since(self.rt, start)?;
-        for sum in sums.iter() {
-            ensure!(
-                *sum == self.order.len() as u64,
-                "a load from memory was wrong"
-            );
-        }
-        Ok(time)
-    }
-
-    // Loads from an array of as many words as a store has, by `count` threads at once.
+    // Prints loads from an array of as many words as a store has, by `count` threads at once.
     fn print_plain(&self, count: u32) -> anyhow::Result<()> {
-        let words = vec![in self.alloc; 1u64; 3 * self.vertices as usize + 1]?;
+        let words = vec![in self.alloc; 1u64; words_of(self.vertices)]?;
         let mut sums = vec![in self.alloc; 0u64; count as usize]?;
-        let time = self.time_loads(words.as_slice(), sums.as_mut_slice())?;
+        let (words, sums) = (words.as_slice(), sums.as_mut_slice());
+        let time = time_loads(self.rt, words, self.order, sums)?;
         self.print_each("plain", count, time)
     }
 
-    // The readers read, and this is the time that it takes. All levels are 1.
-    fn time_ones(&self, readers: &mut [Reader<'_>]) -> anyhow::Result<Duration> {
-        let time = time_readers(self.rt, self.order, readers)?;
-        for reader in readers.iter() {
-            ensure!(reader.sum == self.order.len() as u64, "a read was wrong");
-        }
-        Ok(time)
-    }
-
-    // Reads of a store with all vertices on level 1, by `count` readers at once.
+    // Prints reads of a store with all vertices on level 1, by `count` readers at once.
     fn print_ones(
         &self,
         what: &str,
@@ -149,13 +92,13 @@ impl<'a, R: Threads + Sync + Clock + Print> Bench<'a, R> {
         ensures { writer.new ≡ writer.old }
     {
         let mut readers = make_readers(self.alloc, store, writer, count)?;
-        let time = self.time_ones(readers.as_mut_slice());
+        let time = time_ones(self.rt, self.order, readers.as_mut_slice());
         drop(readers);
         self.print_each(what, count, time?)
     }
 
-    // Reads of a store of which all moves are cleared: one load each. Then all moves of the second plan are marked, no
-    // group is published, and a read has three loads.
+    // Prints reads of a store of which all moves are cleared: one load each. Then it marks all moves of the second
+    // plan, publishes no group, and prints reads of three loads each.
     fn print_both(&self, store: &Store, writer: &mut Writer, count: u32) -> anyhow::Result<()>
         requires fresh { IsFresh self.now.vertices store.now writer.old }
         requires plans { ArePlans self.now.vertices self.now.plans.now }
@@ -171,7 +114,7 @@ impl<'a, R: Threads + Sync + Clock + Print> Bench<'a, R> {
         self.print_ones("marked", store, writer, count)
     }
 
-    // The writer shows the plans while the readers read.
+    // Lets the writer show the plans while the readers read. Returns the time of the writer and that of the readers.
     fn side_by_side(
         &self,
         store: &Store,
@@ -192,7 +135,8 @@ impl<'a, R: Threads + Sync + Clock + Print> Bench<'a, R> {
         )
     }
 
-    // Reads beside a writer that shows one plan after another, and the writer's work: whether it lasted as long.
+    // Prints reads beside a writer that shows one plan after another, and the writer's work. Its time says whether it
+    // lasted as long as the reads.
     fn print_work(&self, store: &Store, writer: &mut Writer, count: u32) -> anyhow::Result<()>
         requires fresh { IsFresh self.now.vertices store.now writer.old }
         requires plans { ArePlans self.now.vertices self.now.plans.now }
@@ -206,7 +150,7 @@ impl<'a, R: Threads + Sync + Clock + Print> Bench<'a, R> {
         self.print("writer", count, moves, written)
     }
 
-    // A mark, a publication and a clearing of each vertex by a writer alone, and the time that they take.
+    // Returns the time in which a writer alone marks, publishes and clears each move of the first plan.
     fn time_moves(&self, store: &Store, writer: &mut Writer) -> anyhow::Result<Duration>
         requires fresh { IsFresh self.now.vertices store.now writer.old }
         requires plans { ArePlans self.now.vertices self.now.plans.now }
@@ -243,7 +187,7 @@ impl<'a, R: Threads + Sync + Clock + Print> Bench<'a, R> {
         printed
     }
 
-    // The work of a writer alone.
+    // Prints the work of a writer alone: one plan, in which each vertex moves.
     fn print_moves(&self) -> anyhow::Result<()>
         requires plans { ArePlans self.now.vertices self.now.plans.now }
     {
@@ -266,30 +210,12 @@ impl<'a, R: Threads + Sync + Clock + Print> Bench<'a, R> {
         self.print_moves()
     }
 
-    // Zeroes as much memory as a store has, and this is the time that it takes.
-    fn time_zeroing(&self) -> anyhow::Result<Duration> {
-        let start = now(self.rt)?;
-        let words = vec![in self.alloc; 0u64; 3 * self.vertices as usize + 1]?;
-        let time = since(self.rt, start);
-        drop(words);
-        time
-    }
-
-    // Opens a store, and this is the time that it takes.
-    fn time_opening(&self) -> anyhow::Result<Duration> {
-        let start = now(self.rt)?;
-        let (store, writer) = Store::open(self.alloc, self.vertices, 0)?;
-        let time = since(self.rt, start);
-        drop(writer);
-        drop(store);
-        time
-    }
-
     // Prints what it takes to open a store, and before it to zero as much memory as it has.
     fn print_opening(&self) -> anyhow::Result<()> {
-        let words = 3 * u64::from(self.vertices) + 1;
-        self.print("zeroed", 1, words, self.time_zeroing()?)?;
-        self.print("opened", 1, words, self.time_opening()?)
+        let (rt, alloc, n) = (self.rt, self.alloc, self.vertices);
+        let words = words_of(n) as u64;
+        self.print("zeroed", 1, words, time_zeroing(rt, alloc, n)?)?;
+        self.print("opened", 1, words, time_opening(rt, alloc, n)?)
     }
 }
 

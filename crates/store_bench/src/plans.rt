@@ -9,7 +9,7 @@ use kc_groups::{PhasePlan, plan_phase};
 use kc_levels::Levels;
 use std::alloc::{AllocError, Global};
 
-// Vertices on level 1.
+// Returns n vertices on level 1.
 fn ones(alloc: Global, n: u32) -> Result<Levels, AllocError>
     ensures { IfOk result (λ x. length x ≡ n) }
 {
@@ -20,8 +20,8 @@ fn ones(alloc: Global, n: u32) -> Result<Levels, AllocError>
     Ok(levels)
 }
 
-// The plan of a phase of this number. In phases of an odd number all vertices rise to level 1, in the others they fall
-// to level 0.
+// Returns the plan of a phase of this number. In phases of an odd number all vertices rise to level 1, in the others
+// they fall to level 0.
 fn plan(
     alloc: Global,
     phase: u32,

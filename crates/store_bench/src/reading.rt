@@ -9,7 +9,7 @@ use std::thread::Threads;
 // The most threads that load or read at once.
 const MOST_THREADS: usize = 64;
 
-/// Vertices below n, by chance and the same each time.
+/// Returns `count` vertices below n, drawn by chance; the same at each call.
 pub fn by_chance(alloc: Global, n: u32, count: u32) -> Result<Vec<u32>, AllocError>
     requires { 1 ≤ n }
 {
@@ -24,7 +24,7 @@ pub fn by_chance(alloc: Global, n: u32, count: u32) -> Result<Vec<u32>, AllocErr
     Ok(order)
 }
 
-// The sum of the words of the vertices in this order, where the word of a vertex v is at place v + 1.
+// Returns the sum of the words of the vertices in this order, where the word of a vertex v is at place v + 1.
 fn sum_of(words: &[u64], order: &[u32]) -> u64 {
     let mut sum = 0u64;
     for v in order {
@@ -47,7 +47,7 @@ pub fn run_loads<R: Threads + Sync>(rt: &R, words: &[u64], order: &[u32], sums: 
     );
 }
 
-// The sum of the levels of the vertices in this order.
+// Returns the sum of the levels of the vertices in this order.
 fn sum_of_levels(store: &Store, pass: &mut Pass, order: &[u32]) -> u64
     requires { pass.old.table ≡ store.now.table }
     ensures { pass.new.table ≡ pass.old.table }
@@ -111,7 +111,7 @@ pub fn make_readers<'a>(
     Ok(readers)
 }
 
-/// Each of the readers reads in a thread of its own.
+/// Lets each of the readers read, in a thread of its own.
 pub fn run_readers<R: Threads + Sync>(rt: &R, order: &[u32], readers: &mut [Reader<'_>]) {
     thread::for_each_mut(
         rt,

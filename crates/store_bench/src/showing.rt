@@ -14,21 +14,23 @@ use kc_groups::sizes::plans_are_small;
 use kc_history::{Entry, MAX_PHASE};
 use kc_store::{Store, Writer};
 
-// The number of groups of a plan for n vertices.
+// Returns the number of groups of a plan for n vertices.
 fn groups_of(plan: &PhasePlan, n: u32) -> u32
     requires { IsWellFormed n plan.now }
     ensures { result ≡ length plan.now.groups }
 {
+    // Evidence for the check: the number of groups is below 2^32.
     plans_are_small();
     plan.groups.len() as u32
 }
 
-// The number of moves of the group at place g.
+// Returns the number of moves of the group at place g.
 fn moves_of(plan: &PhasePlan, n: u32, g: u32) -> u32
     requires formed { IsWellFormed n plan.now }
     requires inside { g < length plan.now.groups }
     ensures { result ≡ length (group_at plan.now g).moves }
 {
+    // Evidence for the check: the number of moves is below 2^32.
     plans_are_small();
     plan.groups.as_slice()[g as usize].moves.len() as u32
 }
@@ -61,7 +63,7 @@ fn clear_group(store: &Store, writer: &mut Writer, plan: &PhasePlan, g: u32, mov
     }
 }
 
-// The level of v at the end of the history, by a pass that sees nothing else.
+// Returns the level of v at the end of the history. Reads it by a pass of its own.
 fn level_now(store: &Store, writer: &mut Writer, v: u32) -> u16
     requires table { writer.old.table ≡ store.now.table }
     requires vertex { v < store.now.vertices }
@@ -75,7 +77,7 @@ fn level_now(store: &Store, writer: &mut Writer, v: u32) -> u16
     level
 }
 
-// Whether each move of a group is from the level of its vertex at the end of the history.
+// Returns whether each move of a group is from the level of its vertex at the end of the history.
 fn is_current(store: &Store, writer: &mut Writer, n: u32, group: &Entry) -> bool
     requires table { writer.old.table ≡ store.now.table }
     requires vertices { n ≡ store.now.vertices }
@@ -93,7 +95,7 @@ fn is_current(store: &Store, writer: &mut Writer, n: u32, group: &Entry) -> bool
     true
 }
 
-// The same of each group of a plan.
+// Returns whether `is_current` holds of each group of a plan.
 fn are_current(store: &Store, writer: &mut Writer, n: u32, plan: &PhasePlan) -> bool
     requires table { writer.old.table ≡ store.now.table }
     requires vertices { n ≡ store.now.vertices }
@@ -178,7 +180,7 @@ pub fn show(store: &Store, writer: &mut Writer, plan: &PhasePlan, n: u32)
     }
 }
 
-/// Shows the plan of the phase `phase + 1` if it may begin, and says whether it may.
+/// Shows the plan of the phase `phase + 1` if it may begin, and returns whether it may.
 pub fn show_next(store: &Store, writer: &mut Writer, n: u32, phase: u32, plan: &PhasePlan) -> bool
     requires table { writer.old.table ≡ store.now.table }
     requires vertices { (n ≡ store.now.vertices) × (writer.old.state.vertices ≡ n) }
@@ -197,7 +199,7 @@ pub fn show_next(store: &Store, writer: &mut Writer, n: u32, phase: u32, plan: &
     may
 }
 
-/// Shows the plans of the phases from 1 on, and says whether each could begin.
+/// Shows the plans of the phases from 1 on, up to the first that may not begin. Returns whether all could begin.
 pub fn show_all(store: &Store, writer: &mut Writer, n: u32, plans: &[PhasePlan]) -> bool
     requires table { writer.old.table ≡ store.now.table }
     requires vertices { (n ≡ store.now.vertices) × (writer.old.state.vertices ≡ n) }

@@ -58,6 +58,7 @@ fn plan_and_show<R: Threads + Sync, G: Gate + Sync>(
     // Evidence for the check: the state is sound.
     let _graph = engine.graph();
     let plan = engine.plan(rt, alloc, &OpenGate::new(), cleaned)?;
+    // Evidence for the check: the phases of the plan continue the writer's history.
     phases_continue();
     engine.show(rt, gate, store, writer, &plan);
     Ok(plan)

@@ -68,7 +68,7 @@ struct Watch {
 }
 
 impl Watch {
-    // A reader of the service that is to ask for a vertex.
+    // Opens a reader of the service that is to ask for a vertex.
     fn open<R: Threads + Sync>(
         alloc: Global,
         service: &mut Service<'_, R>,
@@ -173,7 +173,7 @@ fn print_bounds(rt: &impl Print, reader: &mut Reader, coreness: &[u32]) -> anyho
     Ok(())
 }
 
-// Both readers ask, each in a thread of its own if one can be made.
+// Lets both readers ask, each in a thread of its own if one can be made.
 fn read_both<R: Threads + Sync>(
     rt: &R,
     one: &mut Watch,
@@ -184,7 +184,7 @@ fn read_both<R: Threads + Sync>(
     first.and(second)
 }
 
-// The readers ask while the batches are applied.
+// Applies the batches while the readers ask.
 fn run_beside<R: Threads + Sync + Print>(
     rt: &R,
     service: &mut Service<'_, R>,

@@ -83,7 +83,7 @@ const HISTORIES: &[&[Change]] = &[
     ],
 ];
 
-// Both invariants hold at each vertex, and its level is near its coreness.
+// Ends the test unless both invariants hold at each vertex, and its level is near its coreness.
 fn check_point<R: Abort>(rt: &R, alloc: Global, graph: &Graph, levels: &Levels) {
     assert!(rt; graph.vertices() == VERTICES && levels.as_slice().len() == VERTICES as usize);
     let th = Thresholds::new(alloc, Profile::One, VERTICES).expect(rt, "memory");

@@ -60,7 +60,7 @@ fn do_each<R: Threads + Sync, G: Gate + Sync>(
     );
 }
 
-// Lets each marker of the list do the task on its range, in at most `threads` threads.
+// Does what `do_each` does to the markers of a list, which keeps its room.
 pub(crate) fn do_lent<R: Threads + Sync, G: Gate + Sync>(
     show: &Show<'_, R, G>,
     plan: &PhasePlan,

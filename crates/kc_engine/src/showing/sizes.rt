@@ -11,6 +11,7 @@ pub(crate) fn groups_of(plan: &PhasePlan, n: u32) -> u32
     requires { IsWellFormed n plan.now }
     ensures { result ≡ length plan.now.groups }
 {
+    // Evidence for the check: the number of groups is below 2^32.
     plans_are_small();
     plan.groups.len() as u32
 }
@@ -21,6 +22,7 @@ pub(crate) fn moves_of(plan: &PhasePlan, n: u32, g: u32) -> u32
     requires inside { g < length plan.now.groups }
     ensures { result ≡ length (group_at plan.now g).moves }
 {
+    // Evidence for the check: the number of moves is below 2^32.
     plans_are_small();
     plan.groups.as_slice()[g as usize].moves.len() as u32
 }

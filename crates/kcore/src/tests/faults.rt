@@ -37,7 +37,7 @@ const COMMANDS: &[Command] = &[
     ("gen 0 5 1 3 2", b"", 0, 11),
 ];
 
-// A call of a command whose reads and writes with these numbers fail. No call has the number 0.
+// Returns a call of a command whose reads and writes with these numbers fail. No call has the number 0.
 fn failing<'a>(command: &Command, reads: &'a [u32], writes: &'a [u32]) -> Call<'a> {
     Call {
         line: command.0,
@@ -48,7 +48,7 @@ fn failing<'a>(command: &Command, reads: &'a [u32], writes: &'a [u32]) -> Call<'
     }
 }
 
-// Whether a call ends with this fault, after a part of the text but not the whole.
+// Returns whether a call ends with this fault, after a part of the text but not the whole.
 fn stops<R: Threads + Sync + AllocGlobal + Abort>(
     rt: &R,
     call: Call<'_>,

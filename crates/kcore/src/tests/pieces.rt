@@ -75,7 +75,7 @@ impl Gate for Greatest {
     }
 }
 
-// Whether a command ends well, and this is the greatest index of a piece that the gate gets.
+// Returns whether a command ends well, and this is the greatest index of a piece that the gate gets.
 fn has_greatest_piece<R: Threads + Sync + AllocGlobal + Abort>(
     rt: &R,
     line: &str,

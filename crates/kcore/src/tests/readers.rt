@@ -30,7 +30,7 @@ impl Gate for Counting {
     }
 }
 
-// Whether a call ends with this status and text, after all readers have put their 40 questions.
+// Returns whether a call ends with this status and text, after all readers have put their 40 questions.
 fn asks_forty<R: Threads + Sync + AllocGlobal + Abort>(
     rt: &R,
     call: Call<'_>,
@@ -48,8 +48,8 @@ fn asks_forty<R: Threads + Sync + AllocGlobal + Abort>(
         && gate.replied.load(SeqCst) == 40
 }
 
-// The batches end with a fault right after the head. The call returns when the readers have ended too: they have put
-// all their questions.
+// The batches end with a fault right after the header lines. The call returns once the readers have ended too, which
+// have put all their questions by then.
 #[test]
 fn both_branches_have_ended_after_a_fault(rt: HostRuntime) -> Result<(), Fail> {
     let head = b"kcore-run 1\nvertices 5\n";

@@ -20,7 +20,7 @@ pub struct Call<'a> {
     pub writes: &'a [u32],
 }
 
-// A call without failing reads or writes.
+// Returns a call without failing reads or writes.
 pub fn in_pieces<'a>(line: &'a str, input: &'a [u8], piece: u32) -> Call<'a> {
     Call {
         line,
@@ -31,7 +31,7 @@ pub fn in_pieces<'a>(line: &'a str, input: &'a [u8], piece: u32) -> Call<'a> {
     }
 }
 
-// The words of a command line.
+// Returns the words of a command line.
 pub fn words_of<R: AllocGlobal + Abort>(rt: &R, line: &str) -> Words {
     let mut words = Words::new(rt.alloc());
     for word in line.split_whitespace() {
@@ -42,7 +42,7 @@ pub fn words_of<R: AllocGlobal + Abort>(rt: &R, line: &str) -> Words {
     words
 }
 
-// The status of a call, and the sink with its text.
+// Returns the status of a call, and the sink with its text.
 pub fn answer_beside<R: Threads + Sync + AllocGlobal + Abort, G: Gate + Sync>(
     rt: &R,
     gate: &G,
@@ -63,7 +63,7 @@ pub fn answer_beside<R: Threads + Sync + AllocGlobal + Abort, G: Gate + Sync>(
     (status, sink)
 }
 
-// The status of a call that no gate watches, and the sink with its text.
+// Returns the status of a call that no gate watches, and the sink with its text.
 pub fn answer<R: Threads + Sync + AllocGlobal + Abort>(
     rt: &R,
     call: Call<'_>,
@@ -71,7 +71,7 @@ pub fn answer<R: Threads + Sync + AllocGlobal + Abort>(
     answer_beside(rt, &OpenGate::new(), call)
 }
 
-// Whether a call ends with this status, and has written this text.
+// Returns whether a call ends with this status, and has written this text.
 pub fn answers<R: Threads + Sync + AllocGlobal + Abort>(
     rt: &R,
     call: Call<'_>,

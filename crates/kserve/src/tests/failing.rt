@@ -14,13 +14,13 @@ const WRITES: &[(u32, &[u8])] = &[
     (4, b"kserve-run 1\nvertices 2\nbatch 1\n"),
 ];
 
-// A call of which this write fails.
+// Returns a call of which this write fails.
 fn failing_write<'a>(input: &'a [u8], write: u32) -> Call<'a> {
     let call = at_once("2", input);
     Call { write, ..call }
 }
 
-// Whether a call with a write that fails has written a text that begins so.
+// Returns whether a call with a write that fails has written a text that begins so.
 fn has_begun<R: Threads + Wait + Sync + AllocGlobal + Abort>(
     rt: &R,
     call: Call<'_>,
@@ -30,7 +30,7 @@ fn has_begun<R: Threads + Wait + Sync + AllocGlobal + Abort>(
     status == Status::WriteFault && sink.bytes().starts_with(text)
 }
 
-// Whether a call ends at each of these writes, and at one in the midst of its text.
+// Returns whether a call ends at each of these writes, and at one in the midst of its text.
 fn each_write_ends<R: Threads + Wait + Sync + AllocGlobal + Abort>(rt: &R, input: &[u8]) -> bool {
     for (number, text) in WRITES {
         let call = failing_write(input, *number);
@@ -54,7 +54,7 @@ fn clients_wait_for_room_while_a_write_fails(rt: HostRuntime) -> Result<(), Fail
 
 const ONE_EDGE: &[u8] = b"kserve 1\nvertices 2\nbatch\n0 1\nend\n";
 
-// A call that reads an edge in pieces of six bytes, of which this read fails.
+// Returns a call that reads an edge in pieces of six bytes, of which this read fails.
 fn failing_read(read: u32) -> Call<'static> {
     let call = at_once("1", ONE_EDGE);
     Call {
@@ -64,7 +64,7 @@ fn failing_read(read: u32) -> Call<'static> {
     }
 }
 
-// Whether nothing is written if one of the seven reads fails. The eighth read isn't made.
+// Returns whether nothing is written if one of the seven reads fails. The eighth read isn't made.
 fn nothing_is_written<R: Threads + Wait + Sync + AllocGlobal + Abort>(rt: &R) -> bool {
     for number in 1..8 {
         if !answers(rt, failing_read(number), Status::ReadFault, b"") {
@@ -95,7 +95,7 @@ const FIRST_READS: &[(&[u8], &[u8])] = &[
     ),
 ];
 
-// Whether each of these inputs is refused before a second read.
+// Returns whether each of these inputs is refused before a second read.
 fn each_is_refused<R: Threads + Wait + Sync + AllocGlobal + Abort>(rt: &R) -> bool {
     for (input, text) in FIRST_READS {
         let call = at_once("1", *input);

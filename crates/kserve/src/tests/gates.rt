@@ -134,8 +134,8 @@ impl Sink for Counting<'_> {
     }
 }
 
-// Whether this many updates, all there are, are submitted and printed, and no thread waits in vain. The first is
-// printed once `wanted` were begun to be submitted.
+// Returns whether this many updates, all there are, are submitted and printed, and no thread waits in vain. The first
+// is printed once `wanted` were begun to be submitted.
 pub fn all_pass<R: Threads + Wait + Sync + AllocGlobal + Abort, G: Gate + Sync>(
     rt: &R,
     gate: &G,

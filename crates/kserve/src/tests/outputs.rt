@@ -26,7 +26,7 @@ fn put_item<R: Abort>(rt: &R, script: &mut Vec<u8>, client: usize, serial: usize
     );
 }
 
-// The lines of a client's script with this number of items.
+// Returns the lines of a client's script with this number of items.
 fn script_of<R: AllocGlobal + Abort>(rt: &R, client: usize, items: usize) -> Vec<u8> {
     let mut script = Vec::new(rt.alloc());
     for serial in 0..items {
@@ -35,7 +35,7 @@ fn script_of<R: AllocGlobal + Abort>(rt: &R, client: usize, items: usize) -> Vec
     script
 }
 
-// The words of a line before the item that was taken of a client.
+// Returns the words of a line before the item that was taken of a client.
 fn name_of<R: AllocGlobal + Abort>(rt: &R, client: usize) -> String {
     format!(in rt.alloc(); "take {client} ").expect(rt, "memory for a name")
 }
@@ -48,7 +48,7 @@ fn put_taken<R: Abort>(rt: &R, items: &mut Vec<u8>, line: &[u8], name: &[u8]) {
     }
 }
 
-// The items of the lines that begin so, a line each.
+// Returns the items of the lines that begin so, a line each.
 fn taken_by<R: AllocGlobal + Abort>(rt: &R, name: &[u8], text: &[u8]) -> Vec<u8> {
     let mut items = Vec::new(rt.alloc());
     for line in text.split(|b| *b == b'\n') {
@@ -57,7 +57,7 @@ fn taken_by<R: AllocGlobal + Abort>(rt: &R, name: &[u8], text: &[u8]) -> Vec<u8>
     items
 }
 
-// Whether the items that a text says were taken of a client are its script.
+// Returns whether the items that a text says were taken of a client are its script.
 fn is_taken<R: AllocGlobal + Abort>(rt: &R, client: usize, items: usize, text: &[u8]) -> bool {
     let name = name_of(rt, client);
     let taken = taken_by(rt, name.as_str().as_bytes(), text);
@@ -73,7 +73,7 @@ fn put_block<R: AllocGlobal + Abort>(rt: &R, input: &mut Vec<u8>, client: usize,
     put(rt, input, b"end\n");
 }
 
-// An input with scripts of these lengths.
+// Returns an input with scripts of these lengths.
 fn input_of<R: AllocGlobal + Abort>(rt: &R, lengths: &[usize]) -> Vec<u8> {
     let mut input = Vec::new(rt.alloc());
     put(rt, &mut input, b"kserve 1\nvertices 40\n");
@@ -83,7 +83,7 @@ fn input_of<R: AllocGlobal + Abort>(rt: &R, lengths: &[usize]) -> Vec<u8> {
     input
 }
 
-// Whether a text has the scripts of all clients.
+// Returns whether a text has the scripts of all clients.
 fn all_are_taken<R: AllocGlobal + Abort>(rt: &R, lengths: &[usize], text: &[u8]) -> bool {
     for client in 0..lengths.len() {
         if !is_taken(rt, client, lengths[client], text) {
@@ -93,7 +93,7 @@ fn all_are_taken<R: AllocGlobal + Abort>(rt: &R, lengths: &[usize], text: &[u8])
     true
 }
 
-// Whether scripts of these lengths are served.
+// Returns whether scripts of these lengths are served.
 pub fn are_served<R: Threads + Wait + Sync + AllocGlobal + Abort>(
     rt: &R,
     lengths: &[usize],

@@ -21,7 +21,7 @@ pub struct Call<'a> {
     pub write: u32,
 }
 
-// A call of which nothing fails.
+// Returns a call of which nothing fails.
 pub fn at_once<'a>(workers: &'static str, input: &'a [u8]) -> Call<'a> {
     Call {
         workers,
@@ -32,7 +32,7 @@ pub fn at_once<'a>(workers: &'static str, input: &'a [u8]) -> Call<'a> {
     }
 }
 
-// The words of a command line.
+// Returns the words of a command line.
 fn words_of<R: AllocGlobal + Abort>(rt: &R, word: &str) -> Words {
     let mut words = Words::new(rt.alloc());
     words
@@ -41,21 +41,21 @@ fn words_of<R: AllocGlobal + Abort>(rt: &R, word: &str) -> Words {
     words
 }
 
-// The source of a call.
+// Returns the source of a call.
 fn source_of<R: AllocGlobal + Abort>(rt: &R, call: Call<'_>) -> MemSource {
     let piece = call.piece;
     assert!(rt; 0 < piece);
     MemSource::new(rt.alloc(), call.input, piece, &[call.read]).expect(rt, "memory for the input")
 }
 
-// The sink of a call, which has room for 16 MiB.
+// Returns the sink of a call, which has room for 16 MiB.
 fn sink_of<R: AllocGlobal + Abort>(rt: &R, call: Call<'_>) -> MemSink {
     let piece = call.piece;
     assert!(rt; 0 < piece);
     MemSink::new(rt.alloc(), 16_777_216, piece, &[call.write]).expect(rt, "memory for the text")
 }
 
-// How a call ends whose text goes to a sink.
+// Returns how a call ends whose text goes to a sink.
 pub fn serve_into<R: Threads + Wait + Sync + AllocGlobal + Abort, K: Sink + Send, G: Gate + Sync>(
     rt: &R,
     gate: &G,
@@ -67,7 +67,7 @@ pub fn serve_into<R: Threads + Wait + Sync + AllocGlobal + Abort, K: Sink + Send
     serve(rt, rt.alloc(), &words, &mut source, sink, gate)
 }
 
-// How a call with an open gate ends, and the sink that took its text.
+// Returns how a call with an open gate ends, and the sink that took its text.
 pub fn answer<R: Threads + Wait + Sync + AllocGlobal + Abort>(
     rt: &R,
     call: Call<'_>,
@@ -77,7 +77,7 @@ pub fn answer<R: Threads + Wait + Sync + AllocGlobal + Abort>(
     (status, sink)
 }
 
-// Whether a call ends so, and has written this.
+// Returns whether a call ends so, and has written this.
 pub fn answers<R: Threads + Wait + Sync + AllocGlobal + Abort>(
     rt: &R,
     call: Call<'_>,
@@ -103,7 +103,7 @@ fn put_equal<R: Abort>(rt: &R, input: &mut Vec<u8>, items: u32) {
     put(rt, input, b"end\n");
 }
 
-// An input with this number of scripts, each of this number of equal items.
+// Returns an input with this number of scripts, each of this number of equal items.
 pub fn equal_scripts<R: AllocGlobal + Abort>(rt: &R, scripts: u32, items: u32) -> Vec<u8> {
     let mut input = Vec::new(rt.alloc());
     put(rt, &mut input, b"kserve 1\nvertices 2\n");

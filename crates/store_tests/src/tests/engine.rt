@@ -63,7 +63,7 @@ fn put_edges(rt: &impl Bench, text: &mut Vec<u8>, edges: &[Edge]) {
     }
 }
 
-// The label of a group and its phase, its moves, each as vertex, old level and new one, and its edges.
+// Puts the label of a group and its phase, its moves, each as vertex, old level and new one, and its edges.
 fn put_group(rt: &impl Bench, text: &mut Vec<u8>, group: &Entry) {
     let label = group.label.expect(rt, "a label");
     put_number(rt, text, b", group ", label);
@@ -77,7 +77,7 @@ fn put_group(rt: &impl Bench, text: &mut Vec<u8>, group: &Entry) {
     put_edges(rt, text, group.edges.as_slice());
 }
 
-// Whether edges come in, the number of the phase, its quiet edges and its groups.
+// Puts whether edges come in, the number of the phase, its quiet edges and its groups.
 fn put_phase(rt: &impl Bench, text: &mut Vec<u8>, phase: &PhasePlan) {
     let quiet = &phase.quiet;
     assert!(rt; quiet.label.is_none() && quiet.moves.is_empty());
@@ -91,7 +91,7 @@ fn put_phase(rt: &impl Bench, text: &mut Vec<u8>, phase: &PhasePlan) {
     put(rt, text, b"; ");
 }
 
-// The phases of a batch and the number of its moves.
+// Puts the phases of a batch and the number of its moves.
 fn put_plan(rt: &impl Bench, text: &mut Vec<u8>, plan: &BatchPlan) {
     for phase in plan.phases.as_slice() {
         put_phase(rt, text, phase);
@@ -99,7 +99,7 @@ fn put_plan(rt: &impl Bench, text: &mut Vec<u8>, plan: &BatchPlan) {
     put_number(rt, text, b"moves ", plan.moves);
 }
 
-// Why a batch is refused.
+// Puts why a batch is refused.
 fn put_fault(rt: &impl Bench, text: &mut Vec<u8>, fault: &EngineFault) {
     match fault {
         EngineFault::EdgeLimit { edges } => put_number(rt, text, b"refused for edges ", *edges),
@@ -108,7 +108,7 @@ fn put_fault(rt: &impl Bench, text: &mut Vec<u8>, fault: &EngineFault) {
     }
 }
 
-// The levels, the number of edges and that of phases.
+// Puts the levels, the number of edges and that of phases.
 fn put_state(rt: &impl Bench, text: &mut Vec<u8>, engine: &Engine) {
     put(rt, text, b"; levels");
     for level in engine.levels().as_slice() {
@@ -118,7 +118,7 @@ fn put_state(rt: &impl Bench, text: &mut Vec<u8>, engine: &Engine) {
     put_number(rt, text, b"; phases ", engine.phases());
 }
 
-// The plan of a batch, and the state of its engine.
+// Returns the plan of a batch, and the state of its engine.
 pub(crate) fn said(rt: &impl Bench, unseen: &Unseen, plan: &BatchPlan) -> Vec<u8> {
     let mut text = Vec::new(rt.alloc());
     put_plan(rt, &mut text, plan);
@@ -208,7 +208,7 @@ const CASES: &[Case] = &[
     ),
 ];
 
-// Whether each batch has the result in its row.
+// Returns whether each batch has the result in its row.
 fn have_results(rt: &impl Bench, unseen: &mut Unseen, batches: &[&'static str]) -> bool {
     for row in batches {
         let (batch, result) = row.split_once("= ").expect(rt, "a batch and its result");

@@ -44,8 +44,8 @@ impl<'a> Desk<'a> {
         true
     }
 
-    // Drains, and says whether the batch is these items, numbered from `first` on. If there are none, the intake has to
-    // be empty.
+    // Drains, and returns whether the batch is these items, numbered from `first` on. If there are none, the intake has
+    // to be empty.
     fn drains<R: Bench + Wait>(&mut self, rt: &R, first: u32, items: &[Item]) -> bool {
         let is_empty = self.intake.drain(rt, &mut self.drainer).is_err();
         let batch = self.drainer.batch();
@@ -53,7 +53,7 @@ impl<'a> Desk<'a> {
     }
 }
 
-// Whether the updates of a client are these items in order, numbered from `first` on.
+// Returns whether the updates of a client are these items in order, numbered from `first` on.
 fn are_of(updates: &[Update], client: u32, first: u32, items: &[Item]) -> bool {
     let mut count = 0u32;
     for update in updates {
@@ -73,7 +73,7 @@ const INSERT: Item = Item::Insert { u: 0, v: 1 };
 
 const ISOLATE: Item = Item::Isolate { v: 7 };
 
-// An intake with one client.
+// Returns an intake with one client.
 fn open_for_one(rt: &impl Bench, capacity: u32) -> (Intake, Drainer, Client)
     requires capacity { (1 ≤ capacity) × (capacity ≤ 65536) }
     ensures drainer { result.1.intake ≡ result.0 }
@@ -84,7 +84,7 @@ fn open_for_one(rt: &impl Bench, capacity: u32) -> (Intake, Drainer, Client)
     (intake, drainer, client)
 }
 
-// Whether these items fit, and one more doesn't. Then they are drained, and there are no more.
+// Returns whether these items fit, and one more doesn't. Then they are drained, and there are no more.
 fn fills_and_empties<R: Bench + Wait>(rt: &R, desk: &mut Desk<'_>, items: &[Item]) -> bool {
     if !desk.drainer.batch().is_empty() {
         return false;
@@ -97,7 +97,7 @@ fn fills_and_empties<R: Bench + Wait>(rt: &R, desk: &mut Desk<'_>, items: &[Item
     !desk.submits(rt, INSERT) && desk.drains(rt, 0, items) && desk.drains(rt, 0, &[])
 }
 
-// An intake for this number of items is filled and emptied.
+// Fills and empties an intake for this number of items, or ends the test.
 fn expect_room<R: Bench + Wait>(rt: &R, capacity: u32, items: &[Item])
     requires capacity { (1 ≤ capacity) × (capacity ≤ 65536) }
 {
@@ -125,7 +125,7 @@ const FIRST: &[Item] = &[INSERT];
 
 const LAST: &[Item] = &[ISOLATE];
 
-// Whether an item of a client is drained, and one more submitted.
+// Returns whether an item of a client is drained, and one more submitted.
 fn leaves_one<R: Bench + Wait>(rt: &R, desk: &mut Desk<'_>) -> bool {
     desk.drains(rt, 0, &[])
         && desk.submits(rt, INSERT)
@@ -157,7 +157,7 @@ fn a_client_is_taken_in_before_its_last_update(rt: HostRuntime) {
     assert!(rt; takes_in(&rt, desk));
 }
 
-// A script of this number of items.
+// Returns a script of this number of items.
 fn random_script(rt: &impl Bench, random: &mut Random, length: u32) -> Vec<Item> {
     let mut script = Vec::new(rt.alloc());
     for _i in 0..length {
@@ -173,7 +173,7 @@ fn random_script(rt: &impl Bench, random: &mut Random, length: u32) -> Vec<Item>
     script
 }
 
-// The clients with scripts of these lengths.
+// Returns the clients with scripts of these lengths.
 fn senders_of<'a>(
     rt: &impl Bench,
     intake: &'a Intake,
@@ -194,7 +194,7 @@ fn senders_of<'a>(
     senders
 }
 
-// How many items the senders have.
+// Returns how many items the senders have.
 fn count_items(senders: &[Sender<'_>]) -> usize {
     let mut count = 0usize;
     for sender in senders {
@@ -203,7 +203,7 @@ fn count_items(senders: &[Sender<'_>]) -> usize {
     count
 }
 
-// Whether the updates are the scripts of the senders, each script in its order, and each item once.
+// Returns whether the updates are the scripts of the senders, each script in its order, and each item once.
 fn are_delivered(senders: &[Sender<'_>], updates: &[Update]) -> bool {
     let mut client = 0u32;
     for sender in senders {
@@ -215,8 +215,8 @@ fn are_delivered(senders: &[Sender<'_>], updates: &[Update]) -> bool {
     updates.len() == count_items(senders)
 }
 
-// Whether the server gets each script whole and in order while the clients submit, and afterwards finds the intake
-// empty.
+// Returns whether the server gets each script whole and in order while the clients submit, and afterwards finds the
+// intake empty.
 fn delivers<R: Bench + Wait>(
     rt: &R,
     intake: &Intake,

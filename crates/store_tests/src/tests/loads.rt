@@ -7,7 +7,7 @@ use crate::tests::support::{Bench, put};
 use kc_session::GenSource;
 use kc_text::Source;
 
-// Whether the source has this text, if it is read in pieces of this size, at most 1,000 of them.
+// Returns whether the source has this text, if it is read in pieces of this size, at most 1,000 of them.
 fn has_text(rt: &impl Bench, source: GenSource, piece: usize, wanted: &[u8]) -> bool
     requires { (0 < piece) × (piece ≤ 1000) }
 {
@@ -21,7 +21,7 @@ fn has_text(rt: &impl Bench, source: GenSource, piece: usize, wanted: &[u8]) -> 
     text.as_slice() == wanted
 }
 
-// The load has its text, whatever the pieces.
+// Ends the test unless the load has its text, whatever the pieces.
 fn expect_text(rt: &impl Bench, seed: u32, n: u32, batches: u32, items: u32, text: &[u8])
     requires { IsLoad n batches items }
 {

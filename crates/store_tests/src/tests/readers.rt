@@ -38,7 +38,7 @@ impl Gate for Party {
     }
 }
 
-// Whether readers that ask twice for a vertex, one for vertex 0 and `others` for vertex 1, ask at once.
+// Returns whether readers that ask twice for a vertex, one for vertex 0 and `others` for vertex 1, ask at once.
 fn run_at_once(rt: &impl Bench, others: u64) -> bool {
     let gate = Party {
         readers: others.wrapping_add(1),
@@ -114,7 +114,7 @@ impl<R: Clock> Gate for Lagging<'_, R> {
     }
 }
 
-// The replies in a text with one reader, with blanks between them.
+// Returns the replies in a text with one reader, with blanks between them.
 fn replies_in(text: &[u8]) -> Option<&str> {
     let (_batches, rest) = str::from_utf8(text).ok()?.split_once("\nreader 0 ")?;
     let (replies, rest) = rest.split_once("\n")?;
@@ -125,7 +125,7 @@ fn replies_in(text: &[u8]) -> Option<&str> {
     }
 }
 
-// Whether the first reply of the reader is level 0, and the last one level 2.
+// Returns whether the first reply of the reader is level 0, and the last one level 2.
 fn has_followed(text: &[u8]) -> bool {
     match replies_in(text) {
         Some(replies) => replies.starts_with("0=0 ") && replies.ends_with(" 0=2"),
@@ -148,7 +148,7 @@ fn a_reader_follows_the_batches(rt: HostRuntime) {
     assert!(rt; ended.replies == 65_536 && has_followed(sink.bytes()));
 }
 
-// An input with a batch and one reader, which asks for these vertices.
+// Returns an input with a batch and one reader, which asks for these vertices.
 fn with_ask(rt: &impl Bench, times: u32, vertices: &[u32]) -> Vec<u8> {
     let mut input = Vec::new(rt.alloc());
     put_number(rt, &mut input, b"kcore 1\nvertices 256\nask ", times);
@@ -159,7 +159,7 @@ fn with_ask(rt: &impl Bench, times: u32, vertices: &[u32]) -> Vec<u8> {
     input
 }
 
-// Whether a reply, as vertex and level, is for this vertex.
+// Returns whether a reply, as vertex and level, is for this vertex.
 fn is_for(reply: &str, vertex: u32) -> bool {
     match reply.split_once("=") {
         Some((v, _level)) => read_number(v.as_bytes()) == Some(vertex),
@@ -167,7 +167,7 @@ fn is_for(reply: &str, vertex: u32) -> bool {
     }
 }
 
-// How many replies there are, if they are for these vertices, over and over.
+// Returns how many replies there are, if they are for these vertices, over and over.
 fn count_for(replies: &str, vertices: &[u32]) -> Option<usize> {
     let mut told = 0usize;
     for reply in replies.split(' ') {
@@ -179,7 +179,7 @@ fn count_for(replies: &str, vertices: &[u32]) -> Option<usize> {
     Some(told)
 }
 
-// Whether the replies of a session are for what its ask asks for, one for one.
+// Returns whether the replies of a session are for what its ask asks for, one for one.
 fn walks(rt: &impl Bench, times: u32, vertices: &[u32]) -> bool {
     let input = with_ask(rt, times, vertices);
     let (ended, sink) = run(rt, &OpenGate::new(), 2, input.as_slice());
@@ -204,7 +204,8 @@ fn replies_are_in_the_order_of_a_plain_walk(rt: HostRuntime) {
     assert!(rt; walks(&rt, 256, all.as_slice()));
 }
 
-// An input with this head, whose batch joins 64 pairs: the first round has 128 candidates, so each worker gets a piece.
+// Returns an input with this head, whose batch joins 64 pairs: the first round has 128 candidates, so each worker gets
+// a piece.
 fn with_pairs(rt: &impl Bench, head: &[u8]) -> Vec<u8> {
     let mut input = Vec::new(rt.alloc());
     put(rt, &mut input, head);
@@ -217,14 +218,14 @@ fn with_pairs(rt: &impl Bench, head: &[u8]) -> Vec<u8> {
     input
 }
 
-// Whether the round with the most pieces has one for each worker, in a session.
+// Returns whether the round with the most pieces has one for each worker, in a session.
 fn runs_in_pieces(rt: &impl Bench, workers: u32, input: &[u8]) -> bool {
     let gate = Greatest::new();
     let _ended = run(rt, &gate, workers, input);
     gate.index().wrapping_add(1) == u64::from(workers)
 }
 
-// The same if the batches are settled.
+// Returns what `runs_in_pieces` returns, but for batches that are settled.
 fn settles_in_pieces(rt: &impl Bench, workers: u32, input: &[u8]) -> bool {
     let gate = Greatest::new();
     let _settled = run_settled(rt, &gate, workers, input);

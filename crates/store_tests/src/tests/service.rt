@@ -12,7 +12,7 @@ fn open<R: Bench>(rt: &R, options: Options) -> Service<'_, R> {
     Service::open(rt, rt.alloc(), options).expect(rt, "open")
 }
 
-// What `open` answers: the number that is out of range, with a letter for the option, or 0.
+// Returns what `open` answers: the number that is out of range, with a letter for the option, or 0.
 fn open_answer<R: Bench>(rt: &R, options: Options) -> (char, u32) {
     match Service::open(rt, rt.alloc(), options) {
         Ok(service) => {
@@ -78,14 +78,14 @@ fn apply_answer<R: Threads + Sync>(service: &mut Service<'_, R>, items: &[Item])
     }
 }
 
-// The certificate of the state: graph and levels as a text.
+// Returns the certificate of the state: graph and levels as a text.
 fn certificate<R: Bench>(rt: &R, service: &Service<'_, R>) -> MemSink {
     let mut sink = MemSink::new(rt.alloc(), 4096, 4096, &[]).expect(rt, "memory");
     service.certificate(&mut sink).expect(rt, "certificate");
     sink
 }
 
-// Whether the reader finds each vertex on its level in the service, and none besides.
+// Returns whether the reader finds each vertex on its level in the service, and none besides.
 fn has_levels<R>(reader: &mut Reader, service: &Service<'_, R>) -> bool {
     let Ok(levels) = service.levels() else {
         return false;
@@ -99,8 +99,8 @@ fn has_levels<R>(reader: &mut Reader, service: &Service<'_, R>) -> bool {
     reader.level(n).is_none() && reader.bounds(n).is_none() && reader.bounds(u32::MAX).is_none()
 }
 
-// Whether a batch has this answer, which refuses it, and changes nothing: not the certificate, and not what readers
-// see.
+// Returns whether a batch has this answer, which refuses it, and changes nothing: not the certificate, and not what
+// readers see.
 fn refuses<R: Bench>(rt: &R, service: &mut Service<'_, R>, items: &[Item], answer: Answer) -> bool {
     let before = certificate(rt, service);
     let mut reader = service.reader().expect(rt, "memory");
@@ -122,7 +122,7 @@ const REFUSALS: &[(&str, Answer)] = &[
     ("*::", ('r', 0)),
 ];
 
-// Whether a batch has this answer.
+// Returns whether a batch has this answer.
 fn answers<R: Bench>(rt: &R, service: &mut Service<'_, R>, text: &str, answer: Answer) -> bool {
     apply_answer(service, items_of(rt, text).as_slice()) == answer
 }
@@ -142,7 +142,7 @@ fn refused_batches_change_nothing(rt: HostRuntime) {
     drop(service);
 }
 
-// More items than a batch may have, of a vertex that isn't there: that there are too many comes first.
+// Returns more items than a batch may have, of a vertex that isn't there: that there are too many comes first.
 fn too_many(rt: &impl Bench) -> Vec<Item> {
     vec![in rt.alloc(); Item::Isolate { v: 2 }; MAX_ITEMS as usize + 1].expect(rt, "memory")
 }
@@ -184,7 +184,7 @@ fn apply_between<R: Threads + Sync>(
     answer
 }
 
-// The reader asks in a thread of its own.
+// Lets the reader ask, in a thread of its own.
 fn meet<R: Threads + Sync>(
     rt: &R,
     service: &mut Service<'_, R>,
@@ -201,7 +201,7 @@ fn meet<R: Threads + Sync>(
     )
 }
 
-// Whether the reader sees level 0 before a batch, and level 1 after it.
+// Returns whether the reader sees level 0 before a batch, and level 1 after it.
 fn sees_both<R: Bench>(rt: &R, service: &mut Service<'_, R>, reader: &mut Reader) -> bool {
     let items = items_of(rt, "+01 +02 +12");
     let meeting = Meeting::default();

@@ -9,19 +9,19 @@ use kc_session::{Agent, Ended, SessionFault, run_session, settle};
 use kc_store::{Store, Writer};
 use kc_text::{LineReader, MemSink, MemSource};
 
-// A source of an input in pieces of 16 bytes.
+// Returns a source of an input in pieces of 16 bytes.
 fn source_of(rt: &impl Bench, input: &[u8]) -> MemSource {
     MemSource::new(rt.alloc(), input, 16, &[]).expect(rt, "memory")
 }
 
-// A reader of the lines after the header of an input, and that header.
+// Returns a reader of the lines after the header of an input, and that header.
 fn open_input(rt: &impl Bench, source: &mut MemSource) -> (Header, LineReader) {
     let mut reader = LineReader::new(rt.alloc(), 65_536, 1_073_741_824).expect(rt, "memory");
     let header = Header::read(rt.alloc(), &mut reader, source).expect(rt, "a header");
     (header, reader)
 }
 
-// The end of a session of an input, and its sink, which fails at the calls with these numbers.
+// Returns the end of a session of an input, and its sink, which fails at the calls with these numbers.
 fn run_failing<R: Bench, G: Gate + Sync>(
     rt: &R,
     gate: &G,
@@ -47,7 +47,7 @@ fn run_failing<R: Bench, G: Gate + Sync>(
     (ended, sink)
 }
 
-// The same of a session that ends well.
+// Does what `run_failing` does, of a session that ends well.
 pub(crate) fn run<R: Bench, G: Gate + Sync>(
     rt: &R,
     gate: &G,
@@ -58,7 +58,8 @@ pub(crate) fn run<R: Bench, G: Gate + Sync>(
     (ended.expect(rt, "a fault"), sink)
 }
 
-// How many batches of an input were refused, how many phases there were, and the notes, if there are no readers.
+// Returns how many batches of an input were refused, how many phases there were, and the notes, if there are no
+// readers.
 pub(crate) fn run_settled<R: Bench, G: Gate + Sync>(
     rt: &R,
     gate: &G,
@@ -112,7 +113,7 @@ const COUNTS: Ended = Ended {
     top: 1,
 };
 
-// Whether a text is these three parts, one after another.
+// Returns whether a text is these three parts, one after another.
 fn is_made_of(text: &[u8], first: &[u8], second: &[u8], third: &[u8]) -> bool {
     match text.strip_prefix(first) {
         Some(rest) => rest.strip_prefix(second) == Some(third),
@@ -120,7 +121,7 @@ fn is_made_of(text: &[u8], first: &[u8], second: &[u8], third: &[u8]) -> bool {
     }
 }
 
-// Whether a session of this input has this line of a reader, and these replies.
+// Returns whether a session of this input has this line of a reader, and these replies.
 fn is_written<R: Bench, G: Gate + Sync>(
     rt: &R,
     gate: &G,
@@ -220,7 +221,7 @@ const BEFORE: &[u8] =
 const AFTER: &[u8] =
     b"vertex 0 level 1 est 2 low 1 high 2 up 1 down 1\nvertex 1 level 1 est 2 low 1 high 2 up 1 down 1\nvertex 2 level 1 est 2 low 1 high 2 up 1 down 1\nvertex 3 level 1 est 2 low 1 high 2 up 1 down 1\nvertex 4 level 0 est 0 low 0 high 0 up 0 down 0\nvertex 5 level 0 est 0 low 0 high 0 up 0 down 0\nend\n";
 
-// An input with these asks, and a batch of two groups.
+// Returns an input with these asks, and a batch of two groups.
 fn two_groups(rt: &impl Bench, asks: &[u8]) -> Vec<u8> {
     let mut input = Vec::new(rt.alloc());
     put(rt, &mut input, b"kcore 1\nvertices 6\n");
@@ -229,7 +230,7 @@ fn two_groups(rt: &impl Bench, asks: &[u8]) -> Vec<u8> {
     input
 }
 
-// Whether a text has one of these lines of readers.
+// Returns whether a text has one of these lines of readers.
 fn has_line(text: &[u8], lines: &[&[u8]]) -> bool {
     for line in lines {
         if is_made_of(text, BEFORE, line, AFTER) {
@@ -239,7 +240,7 @@ fn has_line(text: &[u8], lines: &[&[u8]]) -> bool {
     false
 }
 
-// Whether a session of this input, with this hold and these workers, has one of these lines of readers.
+// Returns whether a session of this input, with this hold and these workers, has one of these lines of readers.
 fn has_replies(rt: &impl Bench, hold: Hold, workers: u32, input: &[u8], lines: &[&[u8]]) -> bool {
     let gate = Holds::new(hold);
     let (_ended, sink) = run(rt, &gate, workers, input);
@@ -322,8 +323,8 @@ impl Gate for Told {
     }
 }
 
-// The replies to an agent with the number 2, which asks three times for vertices 4 and 0. No batch has changed the
-// store yet.
+// Returns the replies to an agent with the number 2, which asks three times for vertices 4 and 0. No batch has changed
+// the store yet.
 fn replies_of_one(rt: &impl Bench, gate: &Told, store: &Store, writer: &mut Writer) -> Vec<Reply>
     requires table { writer.old.table ≡ store.now.table }
     requires vertices { store.now.vertices ≡ 5 }

@@ -51,7 +51,7 @@ impl<'a, R: Clock> Pairing<'a, R> {
         self.alone.add(1);
     }
 
-    // Whether a group was marked and cleared by two workers, and piece 0 went on alone this often.
+    // Returns whether a group was marked and cleared by two workers, and piece 0 went on alone this often.
     fn has_paired(&self, alone: u64) -> bool {
         self.zeros.get() == 2 && self.others.get() == 2 && self.alone.get() == alone
     }
@@ -69,7 +69,7 @@ impl<R: Clock> Gate for Pairing<'_, R> {
     }
 }
 
-// Whether a batch is shown, and has this number of moves.
+// Returns whether a batch is shown, and has this number of moves.
 fn shows<R: Bench, G: Gate + Sync>(
     rt: &R,
     gate: &G,
@@ -83,7 +83,7 @@ fn shows<R: Bench, G: Gate + Sync>(
     }
 }
 
-// The path of the vertices from the first to the last.
+// Returns the path of the vertices from the first to the last.
 fn path(rt: &impl Bench, first: u32, last: u32) -> Vec<Item> {
     let mut items = Vec::new(rt.alloc());
     for v in first..last {
@@ -97,7 +97,7 @@ fn path(rt: &impl Bench, first: u32, last: u32) -> Vec<Item> {
 // First and last vertex of a path, for how long piece 0 waits for piece 1, and how often in vain.
 type Path = (u32, u32, u32, u64);
 
-// Whether a path rises as one group, which two workers mark and then clear.
+// Returns whether a path rises as one group, which two workers mark and then clear.
 fn pairs<R: Bench + Clock>(rt: &R, trial: &mut Trial<'_>, path_of: &Path) -> bool {
     let (first, last, most, alone) = *path_of;
     let gate = Pairing::new(rt, most);
@@ -170,7 +170,7 @@ impl Course {
         }
     }
 
-    // Whether the gate had all calls that are due, and no others.
+    // Returns whether the gate had all calls that are due, and no others.
     fn is_over(&self) -> bool {
         self.published.get() == 4 && self.pieces.get() == 0x0808 && self.others.get() == 0
     }

@@ -29,7 +29,7 @@ impl Gate for Turns {
     }
 }
 
-// Whether the reader reads these levels of the vertices from 0 on.
+// Returns whether the reader reads these levels of the vertices from 0 on.
 fn reads(reader: &mut Reader<'_>, levels: &[u16]) -> bool {
     let mut v = 0u32;
     for level in levels {
@@ -66,8 +66,8 @@ fn show_all<R: Bench>(rt: &R, turns: &Turns, trial: &mut Trial<'_>, texts: &[&st
     shown
 }
 
-// The writer shows the batches while the reader reads. Says whether they were shown, and whether the reader read its
-// rows.
+// Lets the writer show the batches while the reader reads. Returns whether they were shown, and whether the reader read
+// its rows.
 fn take_turns<R: Bench>(
     rt: &R,
     turns: &Turns,
@@ -85,8 +85,9 @@ fn take_turns<R: Bench>(
     )
 }
 
-// Whether a reader that is there before the batches reads these rows, one at each spot. The spots are before a group is
-// marked, before it is published, and before it is cleared. At the end the reader reads the levels of the engine.
+// Returns whether a reader that is there before the batches reads these rows, one at each spot. The spots are before a
+// group is marked, before it is published, and before it is cleared. At the end the reader reads the levels of the
+// engine.
 fn sees_rows<R: Bench>(rt: &R, trial: &mut Trial<'_>, texts: &[&str], rows: &[[u16; 5]]) -> bool {
     let mut reader = trial.reader();
     let turns = Turns::default();
@@ -203,7 +204,7 @@ fn run_askers<R: Threads + Sync>(rt: &R, meeting: &Meeting, askers: &mut [Asker<
     );
 }
 
-// Up to six insertions and deletions.
+// Returns up to six insertions and deletions.
 fn draw_items(rt: &impl Bench, random: &mut Random) -> Vec<Item> {
     let mut items = Vec::new(rt.alloc());
     for _ in 0..6 {
@@ -238,7 +239,7 @@ fn show_batches<R: Bench>(rt: &R, meeting: &Meeting, trial: &mut Trial<'_>) -> V
     plans
 }
 
-// The writer shows batches while the readers read.
+// Lets the writer show batches while the readers read.
 fn show_beside<R: Bench>(
     rt: &R,
     meeting: &Meeting,
@@ -276,7 +277,7 @@ fn put_rows(rt: &impl Bench, rows: &mut Vec<u16>, row: &mut [u16], plan: &BatchP
     }
 }
 
-// The levels after each group of these plans, row by row, from a row of zeros on; beside them the last row.
+// Returns the levels after each group of these plans, row by row, from a row of zeros on; beside them the last row.
 fn rows_of(rt: &impl Bench, plans: &[BatchPlan]) -> (Vec<u16>, Vec<u16>) {
     let mut row = vec![in rt.alloc(); 0u16; WIDTH].expect(rt, "memory");
     let mut rows = vec![in rt.alloc(); 0u16; WIDTH].expect(rt, "memory");
@@ -286,7 +287,7 @@ fn rows_of(rt: &impl Bench, plans: &[BatchPlan]) -> (Vec<u16>, Vec<u16>) {
     (rows, row)
 }
 
-// The first row from this one on in which v is on this level.
+// Returns the first row from this one on in which v is on this level.
 fn reach(rows: &[u16], from: usize, v: usize, level: u16) -> Option<usize> {
     for at in from..rows.len() / WIDTH {
         if rows.get(at.wrapping_mul(WIDTH).wrapping_add(v)) == Some(&level) {
@@ -296,7 +297,7 @@ fn reach(rows: &[u16], from: usize, v: usize, level: u16) -> Option<usize> {
     None
 }
 
-// Whether the answers are levels of the rows, each of one that isn't before that of the answer before it.
+// Returns whether the answers are levels of the rows, each of one that isn't before that of the answer before it.
 fn are_explained(rows: &[u16], answers: &[u16]) -> bool {
     let mut at = 0;
     for i in 0..answers.len() {
@@ -308,8 +309,8 @@ fn are_explained(rows: &[u16], answers: &[u16]) -> bool {
     true
 }
 
-// Whether the answers of each reader are explained, and the first of them are the row after the first batches. The
-// levels before or after all batches would be explained as well.
+// Returns whether the answers of each reader are explained, and the first of them are the row after the first batches.
+// The levels before or after all batches would be explained as well.
 fn have_looked(rows: &[u16], first: &[u16], levels: &[u16], askers: &[Asker<'_>]) -> bool {
     for asker in askers {
         let answers = asker.levels.as_slice();
@@ -324,7 +325,7 @@ fn have_looked(rows: &[u16], first: &[u16], levels: &[u16], askers: &[Asker<'_>]
     true
 }
 
-// Whether the plans lead to these levels, and what the readers read is explained by the plans.
+// Returns whether the plans lead to these levels, and what the readers read is explained by the plans.
 fn are_right(rt: &impl Bench, plans: &[BatchPlan], levels: &[u16], askers: &[Asker<'_>]) -> bool {
     assert!(rt; plans.len() >= FIRST_BATCHES as usize);
     let (_rows, first) = rows_of(rt, &plans[..FIRST_BATCHES as usize]);
@@ -332,7 +333,7 @@ fn are_right(rt: &impl Bench, plans: &[BatchPlan], levels: &[u16], askers: &[Ask
     last.as_slice() == levels && have_looked(rows.as_slice(), first.as_slice(), levels, askers)
 }
 
-// Whether readers that read beside the writer see points of its history.
+// Returns whether readers that read beside the writer see points of its history.
 fn history_is_seen<R: Bench>(rt: &R, trial: &mut Trial<'_>) -> bool {
     let meeting = Meeting::default();
     let mut askers = make_askers(rt, trial);

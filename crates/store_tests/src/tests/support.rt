@@ -61,7 +61,7 @@ pub(crate) fn put_number(rt: &impl Bench, text: &mut Vec<u8>, part: &[u8], numbe
     put(rt, text, digits.as_bytes());
 }
 
-// An item that inserts an edge for the sign `+`, deletes one for `-`, and isolates v for any other.
+// Returns an item that inserts an edge for the sign `+`, deletes one for `-`, and isolates v for any other.
 fn item(sign: u8, u: u32, v: u32) -> Item {
     match sign {
         b'+' => Item::Insert { u, v },
@@ -70,7 +70,7 @@ fn item(sign: u8, u: u32, v: u32) -> Item {
     }
 }
 
-// An item of this sign between vertices below n.
+// Returns an item of this sign between vertices below n.
 pub(crate) fn draw_item(random: &mut Random, sign: u8, n: u32) -> Item
     requires { 0 < n }
 {
@@ -78,7 +78,8 @@ pub(crate) fn draw_item(random: &mut Random, sign: u8, n: u32) -> Item
     item(sign, u, random.below(n))
 }
 
-// The items of a text such as `+01 -23 *05`: each is a sign and two vertices of one digit. `*` isolates the second one.
+// Returns the items of a text such as `+01 -23 *05`: each is a sign and two vertices of one digit. `*` isolates the
+// second one.
 pub(crate) fn items_of(rt: &impl Bench, text: &str) -> Vec<Item> {
     let mut items = Vec::new(rt.alloc());
     for word in text.as_bytes().split(|b| *b == b' ') {
@@ -93,7 +94,7 @@ pub(crate) fn items_of(rt: &impl Bench, text: &str) -> Vec<Item> {
     items
 }
 
-// A store for n vertices, which was just opened.
+// Returns a store for n vertices, which was just opened.
 pub(crate) fn open_store(rt: &impl Bench, n: u32) -> (Store, Writer)
     requires { (1 ≤ n) × (n ≤ MAX_VERTICES) }
     ensures vertices { result.0.vertices ≡ n }
@@ -102,7 +103,7 @@ pub(crate) fn open_store(rt: &impl Bench, n: u32) -> (Store, Writer)
     Store::open(rt.alloc(), n, 0).expect(rt, "memory")
 }
 
-// An engine beside a store that was just opened.
+// Returns an engine beside a store that was just opened.
 pub(crate) fn trial_of<'a>(
     rt: &impl Bench,
     n: u32,

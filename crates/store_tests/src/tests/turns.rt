@@ -7,7 +7,7 @@ use test_support::random::Random;
 
 const VERTICES: u32 = 20;
 
-// One to six insertions, deletions, and now and then an isolation.
+// Returns one to six insertions, deletions, and now and then an isolation.
 fn draw_items(rt: &impl Bench, random: &mut Random) -> Vec<Item> {
     let mut items = Vec::new(rt.alloc());
     for _ in 0..1 + random.below(6) {
@@ -23,7 +23,7 @@ fn draw_items(rt: &impl Bench, random: &mut Random) -> Vec<Item> {
     items
 }
 
-// A batch after which no edge is left.
+// Returns a batch after which no edge is left.
 fn isolate_all(rt: &impl Bench) -> Vec<Item> {
     let mut items = Vec::new(rt.alloc());
     for v in 0..VERTICES {
@@ -32,8 +32,8 @@ fn isolate_all(rt: &impl Bench) -> Vec<Item> {
     items
 }
 
-// Both engines plan the same of a batch, and are alike afterwards. The first takes its plan back. Returns how many
-// moves the batch has.
+// Ends the test unless both engines plan the same of a batch and are alike afterwards. The first takes its plan back.
+// Returns how many moves the batch has.
 fn plan_both(rt: &impl Bench, kept: &mut Unseen, anew: &mut Unseen, items: &[Item]) -> u32 {
     let plan = kept.plan(rt, items).expect(rt, "refused");
     let again = anew.plan(rt, items).expect(rt, "refused");
@@ -45,7 +45,7 @@ fn plan_both(rt: &impl Bench, kept: &mut Unseen, anew: &mut Unseen, items: &[Ite
     moves
 }
 
-// Ten batches by an engine, and by one that is opened anew. Then all edges leave the first engine. Returns how many
+// Plans ten batches by an engine and by one that is opened anew, and lets all edges leave the first. Returns how many
 // moves the batches have.
 fn run_round(rt: &impl Bench, kept: &mut Unseen, random: &mut Random) -> u32 {
     let mut anew = Unseen::open(rt, VERTICES, 1, kept.engine.phases(), MAX_EDGES);

@@ -35,7 +35,7 @@ fn put_verdict(rt: &impl Bench, out: &mut Vec<u8>, cert: &Certificate)
 }
 
 // Returns the answer of a read: the verdict of the certificate, the refused line and why, or `?` for a read fault.
-fn said(rt: &impl Bench, read: Result<Certificate, CertFault>) -> Vec<u8>
+fn answer_of(rt: &impl Bench, read: Result<Certificate, CertFault>) -> Vec<u8>
     requires { IfOk read IsCertificate }
 {
     let mut out = Vec::new(rt.alloc());
@@ -48,11 +48,18 @@ fn said(rt: &impl Bench, read: Result<Certificate, CertFault>) -> Vec<u8>
     out
 }
 
-fn told(rt: &impl Bench, text: &[u8], piece: u32, failing: &[u32], limits: (u32, u32)) -> Vec<u8> {
+// Returns the answer to a text that comes in pieces of at most `piece` bytes, if these calls of the source fail.
+fn answer_to(
+    rt: &impl Bench,
+    text: &[u8],
+    piece: u32,
+    failing: &[u32],
+    limits: (u32, u32),
+) -> Vec<u8> {
     let mut input = input_of(rt, text, piece, failing, limits);
     let read = read_certificate(rt.alloc(), &mut input.reader, &mut input.source);
     drop(input);
-    said(rt, read)
+    answer_of(rt, read)
 }
 
 const WHOLE: &[&str] = &[
@@ -79,7 +86,7 @@ const WHOLE: &[&str] = &[
 // Checks the answer to a text in pieces of some sizes.
 fn check_whole(rt: &impl Bench, text: &str, want: &str) {
     for piece in [1, 7, 1000] {
-        let got = told(rt, text.as_bytes(), piece, &[], LIMITS);
+        let got = answer_to(rt, text.as_bytes(), piece, &[], LIMITS);
         check(rt, text, &got, want);
     }
 }
@@ -114,15 +121,15 @@ const MISFITS: &[(&str, &str, &str)] = &[
     ("end\n", "end\nend\n", "13 bad-line"),
 ];
 
-fn told_of_change(rt: &impl Bench, old: &str, new: &str) -> Vec<u8> {
+fn answer_to_change(rt: &impl Bench, old: &str, new: &str) -> Vec<u8> {
     let (before, after) = PATH.split_once(old).expect(rt, "the line");
-    told(rt, &joined(rt, &[before, new, after]), 9, &[], LIMITS)
+    answer_to(rt, &joined(rt, &[before, new, after]), 9, &[], LIMITS)
 }
 
 #[test]
 fn misfits(rt: HostRuntime) {
     for (old, new, want) in MISFITS {
-        check(&rt, new, &told_of_change(&rt, old, new), want);
+        check(&rt, new, &answer_to_change(&rt, old, new), want);
     }
 }
 
@@ -146,7 +153,7 @@ fn is_truncated(rt: &impl Bench, start: usize, line: u32) -> bool {
     let mut want = Vec::new(rt.alloc());
     put_number(rt, &mut want, b"", line);
     put(rt, &mut want, b" truncated");
-    told(rt, &path[..start], 1000, &[], LIMITS) == want
+    answer_to(rt, &path[..start], 1000, &[], LIMITS) == want
 }
 
 #[test]
@@ -157,7 +164,7 @@ fn cut_certificates(rt: HostRuntime) {
         assert!(rt; is_truncated(&rt, *start, line));
     }
     for (limits, want) in LIMITED {
-        let got = told(&rt, PATH.as_bytes(), 5, &[], *limits);
+        let got = answer_to(&rt, PATH.as_bytes(), 5, &[], *limits);
         check(&rt, want, &got, want);
     }
 }
@@ -165,7 +172,7 @@ fn cut_certificates(rt: HostRuntime) {
 #[test]
 fn failing_source(rt: HostRuntime) {
     for call in 1..13 {
-        let got = told(&rt, PATH.as_bytes(), 10, &[call], LIMITS);
+        let got = answer_to(&rt, PATH.as_bytes(), 10, &[call], LIMITS);
         check(&rt, "a failing source", &got, "?");
     }
 }
@@ -194,7 +201,8 @@ fn written_certificates(rt: HostRuntime) {
     check_written(&rt, Profile::Two, &[1, 2, 1, 0, 0], FINE_PATH);
 }
 
-// Returns whether a write of the path, of which this call fails, ends with a write fault, and the sink took this text.
+// Returns whether a write of the path ends with a write fault if this call of the sink fails, after the sink took this
+// text.
 fn is_cut(rt: &impl Bench, call: u32, text: &[u8]) -> bool {
     let mut sink = sink_of(rt, 2000, &[call]);
     let answer = write_path(rt, &mut sink, Profile::One, &[1, 1, 1, 0, 0]);

@@ -4,6 +4,6 @@ use Rattle.kc_audit.proofs.walk.wait.Given as goal
 
 abbrev pub invariant-loop-reader : goal.invariant-loop-reader
 invariant-loop-reader l = record {
-  awaited : (r : ℕ) → r < l.reader → get_or l.told r 0 < length (get_or l.readers r []) → get_or l.awaited (reply_at (get_or l.readers r []) (get_or l.told r 0)).vertex false ≡ true;
-  none : l.waits ≡ false → (r : ℕ) → r < l.reader → length (get_or l.readers r []) ≤ get_or l.told r 0;
+  awaited : (r : ℕ) → r < l.reader → get_or l.passed r 0 < length (get_or l.readers r []) → get_or l.awaited (reply_at (get_or l.readers r []) (get_or l.passed r 0)).vertex false ≡ true;
+  none : l.waits ≡ false → (r : ℕ) → r < l.reader → length (get_or l.readers r []) ≤ get_or l.passed r 0;
 }

@@ -11,15 +11,15 @@ loop-waits-init c =
     let n = c.args.run.now.vertices in
     let readers = c.args.run.now.readers in
     let history = history_of c.args.run.now.groups in
-    let on = rw c.as_slice-readers.ensures at c.tell-waits.ensures.told in
-    let sized : length c.tell-waits.new.told ≡ length readers = c.tell-waits.auto.told ∙ (ap (λ (xs : List ℕ). length xs) c.requires.told ∙ length-replicate {A = ℕ} (length readers) 0) in
+    let on = rw c.as_slice-readers.ensures at c.advance-waits.ensures.passed in
+    let sized : length c.advance-waits.new.passed ≡ length readers = c.advance-waits.auto.passed ∙ (ap (λ (xs : List ℕ). length xs) c.requires.passed ∙ length-replicate {A = ℕ} (length readers) 0) in
     record {
       point = omega arith;
       levels = c.requires.levels;
-      within = all_within readers c.args.levels.now c.args.told.now c.tell-waits.new.told sized on;
-      stuck = all_go_on n history readers c.args.levels.now c.args.told.now c.tell-waits.new.told 0 (rw c.requires.told (all_at_start n history readers)) (omega arith) c.requires.levels on;
-      awaited = rw c.as_slice-readers.ensures at c.tell-waits.ensures.awaited;
-      none = rw c.as_slice-readers.ensures at c.tell-waits.ensures.none;
+      within = all_within readers c.args.levels.now c.args.passed.now c.advance-waits.new.passed sized on;
+      stuck = all_go_on n history readers c.args.levels.now c.args.passed.now c.advance-waits.new.passed 0 (rw c.requires.passed (all_at_start n history readers)) (omega arith) c.requires.levels on;
+      awaited = rw c.as_slice-readers.ensures at c.advance-waits.ensures.awaited;
+      none = rw c.as_slice-readers.ensures at c.advance-waits.ensures.none;
     }
 
 pub show-requires-clause-below : goal.show-requires-clause-below
@@ -41,24 +41,24 @@ loop-waits-preserved c =
     let levels = rw (old.levels, members, sym (levels_next n groups p no_line lt)) at c.show.ensures.levels in
     elim c.if-show.branch [
       | then-show w ↦
-          let told = w.tell-waits-then-show.new.told in
-          let on = rw c.as_slice-readers.ensures at w.tell-waits-then-show.ensures.told in
-          let sized : length told ≡ length readers = w.tell-waits-then-show.auto.told ∙ old.within.sized in
+          let passed = w.advance-waits-then-show.new.passed in
+          let on = rw c.as_slice-readers.ensures at w.advance-waits-then-show.ensures.passed in
+          let sized : length passed ≡ length readers = w.advance-waits-then-show.auto.passed ∙ old.within.sized in
           record {
             point = omega (arith, lt);
             levels = levels;
-            within = rw w.told-is (all_within readers c.show.new.levels c.loop-waits.told told sized on);
-            stuck = rw w.told-is (all_go_on n history readers c.show.new.levels c.loop-waits.told told (p + 1) (all_pass n history readers c.loop-waits.told p old.stuck) (omega (arith, lt, length-history groups)) levels on);
-            awaited = rw (w.told-is, w.awaited-is) (rw c.as_slice-readers.ensures at w.tell-waits-then-show.ensures.awaited);
-            none = rw (w.waits-is, w.told-is) (rw c.as_slice-readers.ensures at w.tell-waits-then-show.ensures.none);
+            within = rw w.passed-is (all_within readers c.show.new.levels c.loop-waits.passed passed sized on);
+            stuck = rw w.passed-is (all_go_on n history readers c.show.new.levels c.loop-waits.passed passed (p + 1) (all_pass n history readers c.loop-waits.passed p old.stuck) (omega (arith, lt, length-history groups)) levels on);
+            awaited = rw (w.passed-is, w.awaited-is) (rw c.as_slice-readers.ensures at w.advance-waits-then-show.ensures.awaited);
+            none = rw (w.waits-is, w.passed-is) (rw c.as_slice-readers.ensures at w.advance-waits-then-show.ensures.none);
           }
       | else-show w ↦ record {
         point = omega (arith, lt);
         levels = levels;
-        within = rw w.told-is old.within;
-        stuck = rw w.told-is (all_stay n groups readers c.loop-waits.told c.loop-waits.awaited no_line p old.stuck old.awaited lt (rw members at (c.show.ensures.unmet w.if-show.false)));
-        awaited = rw (w.told-is, w.awaited-is) old.awaited;
-        none = rw (w.waits-is, w.told-is) old.none;
+        within = rw w.passed-is old.within;
+        stuck = rw w.passed-is (all_stay n groups readers c.loop-waits.passed c.loop-waits.awaited no_line p old.stuck old.awaited lt (rw members at (c.show.ensures.unmet w.if-show.false)));
+        awaited = rw (w.passed-is, w.awaited-is) old.awaited;
+        none = rw (w.waits-is, w.passed-is) old.none;
       }
     ]
 
@@ -66,8 +66,8 @@ pub returns : goal.returns
 returns c =
     let run = c.args.run.now in
     let old = c.loop-waits.invariant in
-    let last : (r : ℕ) → r < length run.readers → get_or c.loop-waits.told r 0 < length (get_or run.readers r []) → length run.groups ≤ c.loop-waits.point = elim c.loop-waits-test.branch [
+    let last : (r : ℕ) → r < length run.readers → get_or c.loop-waits.passed r 0 < length (get_or run.readers r []) → length run.groups ≤ c.loop-waits.point = elim c.loop-waits-test.branch [
       | then-loop-waits-test+else-point-len w ↦ λ r h left. omega (arith, w.if-point-len.false, w.len.ensures)
       | else-loop-waits-test w ↦ λ r h left. absurd (omega (arith, left, old.none w.loop-waits-test.false r h))
     ] in
-    told_verdict run c.loop-waits.told c.loop-waits.point c.verdict_of.result old.stuck last (rw c.as_slice-readers.ensures at c.verdict_of.ensures)
+    told_verdict run c.loop-waits.passed c.loop-waits.point c.verdict_of.result old.stuck last (rw c.as_slice-readers.ensures at c.verdict_of.ensures)

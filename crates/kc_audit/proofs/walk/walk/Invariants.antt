@@ -9,10 +9,10 @@ abbrev pub invariant-loop-waits : goal.invariant-loop-waits
 invariant-loop-waits l = record {
   point : l.point ≤ length l.run.groups;
   levels : l.levels ≡ levels_at l.run.vertices (history_of l.run.groups) l.point;
-  within : AreWithin l.run.readers l.told;
-  stuck : AreStuck l.run.vertices (history_of l.run.groups) l.run.readers l.told l.point;
-  awaited : IsAwaited l.awaited l.run.readers l.told;
-  none : l.waits ≡ false → HaveTold l.run.readers l.told;
+  within : AreWithin l.run.readers l.passed;
+  stuck : AreStuck l.run.vertices (history_of l.run.groups) l.run.readers l.passed l.point;
+  awaited : IsAwaited l.awaited l.run.readers l.passed;
+  none : l.waits ≡ false → HaveTold l.run.readers l.passed;
 }
 
 abbrev pub decreases-loop-waits : goal.decreases-loop-waits

@@ -203,6 +203,7 @@ fn first_unexplained(groups: &GroupLines, may_be: &mut [bool], replies: &[Reply]
     None
 }
 
+// Returns the verdict of the plain search: the first reply that is unexplained, of the first reader with one.
 fn plain_verdict(rt: &impl Bench, run: &RunText) -> AuditVerdict {
     let points = run.groups.len().saturating_add(1);
     let mut reader = 0u32;
