@@ -83,7 +83,3 @@ empty_lines from (h ∷ hs) ms e = absurd cc
 
 pub no_lines : (from : ℕ) (hs : List Head) (ms : List Reply) → hs ≡ [] → lines_from from hs ms ≡ []
 no_lines from hs ms e = rw e refl
-
-pub no_heads : (hs : List Head) → length hs ≡ 0 → hs ≡ []
-no_heads [] e = refl
-no_heads (h ∷ hs) e = absurd (omega (arith, e))

@@ -1,5 +1,5 @@
 -- What a walk through a history has reached.
-use Rattle.std.proofs.Common.{ℕ, zero, suc, ◌+◌, ◌-◌, ◌≤◌, ◌<◌, ◌≡◌, List, [], ◌∷◌, ◌++◌, length, take, drop, get_or, refl, ap, sym, arith, inl, inr}
+use Rattle.std.proofs.Common.{ℕ, zero, suc, ◌+◌, ◌-◌, ◌≤◌, ◌<◌, ◌≡◌, List, [], ◌∷◌, ◌++◌, length, take, drop, get_or, ap, sym, arith, inl, inr, append_assoc}
 use Rattle.std.proofs.lemmas.Bool.{cases_lt}
 use Rattle.std.proofs.lemmas.List.{take_more, drop_more, take_all, append-nil}
 use Rattle.std.proofs.lemmas.Bool.Decides.{nat_tests}
@@ -18,17 +18,13 @@ pub record IsReached (n : ℕ) (history : List Entry) (before rest : List Reply)
 pub reached_first : (n : ℕ) (history : List Entry) (rs : List Reply) → IsReached n history [] rs 0
 reached_first n history rs = record { from = λ tail h. h; to = λ tail more e h. h }
 
-assoc : (xs : List Reply) (r : Reply) (ys : List Reply) → (xs ++ r ∷ []) ++ ys ≡ xs ++ r ∷ ys
-assoc [] r ys = refl
-assoc (x ∷ xs) r ys = ap (λ (zs : List Reply). x ∷ zs) (assoc xs r ys)
-
 -- a reply that fits here
 reached_take : (n : ℕ) (history : List Entry) (before rest : List Reply) (r : Reply) (p : ℕ) → IsReached n history before (r ∷ rest) p → IsLevelAt n history p r
     → IsReached n history (before ++ r ∷ []) rest p
 reached_take n history before rest r p h fits = record {
-  from = λ tail e. rw (assoc before r tail) (h.from (r ∷ tail) (p, (omega arith, (fits, e))));
+  from = λ tail e. rw (append_assoc before (r ∷ []) tail) (h.from (r ∷ tail) (p, (omega arith, (fits, e))));
   to = λ tail more eq e.
-      let s : AreExplained n history p (r ∷ tail) = h.to (r ∷ tail) more (ap (λ (zs : List Reply). r ∷ zs) eq) (rw (assoc before r tail) at e) in
+      let s : AreExplained n history p (r ∷ tail) = h.to (r ∷ tail) more (ap (λ (zs : List Reply). r ∷ zs) eq) (rw (append_assoc before (r ∷ []) tail) at e) in
       earlier_explains n history p s.0 tail s.1.0 s.1.1.1;
 }
 

@@ -1,9 +1,10 @@
 -- The lines of a run are read back.
 use Rattle.std.proofs.Common.{ℕ, zero, suc, ◌+◌, ◌^◌, ◌≤◌, ◌<◌, ◌≡◌, Bool, true, false, ◌&&◌, List, [], ◌∷◌, ◌++◌, length, map, refl, sym, ap, ◌∙◌, arith, append_assoc, length-append}
-use Rattle.std.specs.Prelude.{Option, Some, None, nat_le, nat_lt, ◌==◌}
+use Rattle.std.specs.Prelude.{Option, Some, None, nat_le, ◌==◌}
 use Rattle.std.proofs.lemmas.Bool.Decides.{nat_tests}
 use Rattle.std.proofs.lemmas.List.{append-nil}
 use Rattle.std.proofs.lemmas.Option.{same_Some}
+use Rattle.std.proofs.lemmas.Bool.{le-leb, lt-ltb}
 use Rattle.kc_graph.specs.declared.limits.TheConstants.{MAX_VERTICES}
 use Rattle.kc_text.specs.declared.line.Line.{Line}
 use Rattle.kc_history.specs.declared.replies.Reply.{Reply}
@@ -48,12 +49,6 @@ by_kinds (line ∷ rest) r run stage e = by_step (step_of run stage (kind_of lin
 itself : (a : ℕ) → (a == a) ≡ true
 itself a = grind (arith, nat_tests)
 
-at_most : (a b : ℕ) → a ≤ b → nat_le a b ≡ true
-at_most a b h = grind (arith, nat_tests, h)
-
-less : (a b : ℕ) → a < b → nat_lt a b ≡ true
-less a b h = grind (arith, nat_tests, h)
-
 -- groups
 abbrev with_groups : RunText → List GroupLine → RunText
 with_groups run gs = record { vertices = run.vertices; groups = run.groups ++ gs; readers = run.readers }
@@ -62,7 +57,7 @@ group_goes : (run : RunText) (place : Place) (low : ℕ) (g : GroupLine) → run
     → step_of run (Groups place low) (Group g.phase g.label (pair_words 58 g.members)) ≡ Goes (with_groups run (g ∷ [])) (Groups place (suc g.label))
 group_goes run place low g small fits =
     let phase : (g.phase == place.phase) ≡ true = rw fits.phase (itself place.phase) in
-    rw (phase, at_most low g.label fits.label, pairs_back 58 run.vertices g.members (omega arith) small fits.below fits.levels, fits.rises, fits.below, sym fits.phase) refl
+    rw (phase, le-leb low g.label fits.label, pairs_back 58 run.vertices g.members (omega arith) small fits.below fits.levels, fits.rises, fits.below, sym fits.phase) refl
 
 none : (run : RunText) → with_groups run [] ≡ run
 none run = ap (λ (gs : List GroupLine). record { vertices = run.vertices; groups = gs; readers = run.readers }) (append-nil run.groups)
@@ -172,7 +167,7 @@ read_batches (Took (x ∷ y ∷ z ∷ xs) ∷ bs) run stage t p left rest op sma
 
 -- vertices and the end
 vertex_goes : (run : RunText) (v : ℕ) → v < run.vertices → vertex_step run v v ≡ Goes run (VertexLines (suc v))
-vertex_goes run v h = rw (itself v, less v run.vertices h) refl
+vertex_goes run v h = rw (itself v, lt-ltb v run.vertices h) refl
 
 abbrev the_end : List Kind
 the_end = Close ∷ InputEnd ∷ []
@@ -203,7 +198,7 @@ no_readers run = ap (λ (rs : List (List Reply)). record { vertices = run.vertic
 reader_goes : (run : RunText) (r : ℕ) (x : List Reply) → r ≡ length run.readers → r < 64 → run.vertices ≤ 2 ^ 32 → ReaderFits run.vertices x → reader_step run r (pair_words 61 x) ≡ Goes (with_readers run (x ∷ [])) Readers
 reader_goes run r x e few small fits =
     let a : (r == length run.readers) ≡ true = rw e (itself (length run.readers)) in
-    rw (a, less r 64 few, pairs_back 61 run.vertices x (omega arith) small fits.below fits.levels, less 0 (length x) fits.some, fits.below) refl
+    rw (a, lt-ltb r 64 few, pairs_back 61 run.vertices x (omega arith) small fits.below fits.levels, lt-ltb 0 (length x) fits.some, fits.below) refl
 
 read_readers : (rs : List (List Reply)) (n : ℕ) (run : RunText) (stage : Stage) (r : ℕ) → n ≡ run.vertices → IsTail stage → 1 ≤ n → run.vertices ≤ 2 ^ 32 → r ≡ length run.readers → r + length rs ≤ 64 → ReadersFit run.vertices rs
     → run_from run stage (reader_kinds r rs (vertex_kinds 0 n the_end)) ≡ Some (with_readers run rs)
@@ -229,7 +224,7 @@ body_back n bs rs some most fits few readers =
     e.to.same ∙ read_readers rs n (with_groups (empty_run n) (batch_groups bs)) e.to.stage 0 refl (record { reader = e.to.opens.reader; vertex = e.to.opens.vertex }) some small refl (omega (arith, few)) readers
 
 vertices_ok : (n : ℕ) → 1 ≤ n → n ≤ MAX_VERTICES → (nat_le 1 n && nat_le n MAX_VERTICES) ≡ true
-vertices_ok n some most = rw (at_most 1 n some, at_most n MAX_VERTICES most) refl
+vertices_ok n some most = rw (le-leb 1 n some, le-leb n MAX_VERTICES most) refl
 
 pub run_is_read_back : RunIsReadBack
 unfolding document_of after_head kinds

@@ -1,6 +1,7 @@
 -- Each run has a verdict.
-use Rattle.std.proofs.Common.{ℕ, zero, suc, ◌-◌, ◌≤◌, ◌<◌, ◌≡◌, ◌⊎◌, inl, inr, List, [], ◌∷◌, take, length, refl, subst, arith}
+use Rattle.std.proofs.Common.{ℕ, zero, suc, ◌-◌, ◌≤◌, ◌<◌, ◌≡◌, ◌⊎◌, inl, inr, List, [], ◌∷◌, take, length, subst, arith}
 use Rattle.std.proofs.lemmas.Bool.Decides.{nat_tests}
+use Rattle.std.proofs.Math.Seq.{take-length}
 use Rattle.kc_history.specs.declared.entries.Entry.{Entry}
 use Rattle.kc_history.specs.declared.replies.Reply.{Reply}
 use Rattle.kc_history.specs.Replies.{IsLevelAt, AreExplained}
@@ -60,15 +61,11 @@ first_unexplained run rs (suc k) within = elim (first_unexplained run rs k (omeg
   ]
 ]
 
-take_all : (rs : List Reply) → take (length rs) rs ≡ rs
-take_all [] = refl
-take_all (r ∷ rs) = rw (take_all rs) refl
-
 -- the replies of a reader are explained, or one is the first up to which they aren't
 reader_or_not : (run : RunText) (rs : List Reply) → IsExplained run rs ⊎ ((ask : ℕ) × IsFirstUnexplained run rs ask)
 reader_or_not run rs = elim (first_unexplained run rs (length rs) (omega arith)) [
   | inr found ↦ inr found
-  | inl all ↦ inl (subst (λ (xs : List Reply). IsExplained run xs) (take_all rs) all)
+  | inl all ↦ inl (subst (λ (xs : List Reply). IsExplained run xs) (take-length rs) all)
 ]
 
 -- the readers below k are explained, or there is a verdict

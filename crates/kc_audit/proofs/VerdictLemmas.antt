@@ -1,6 +1,7 @@
 -- Verdicts that exclude each other.
-use Rattle.std.proofs.Common.{ℕ, zero, suc, ◌-◌, ◌≤◌, ◌<◌, ◌≡◌, List, [], ◌∷◌, take, refl, ap, arith}
+use Rattle.std.proofs.Common.{ℕ, zero, suc, ◌-◌, ◌≤◌, ◌<◌, ◌≡◌, List, [], ◌∷◌, take, refl, arith}
 use Rattle.std.proofs.lemmas.Bool.Decides.{nat_tests}
+use Rattle.std.proofs.lemmas.List.{take-take}
 use Rattle.kc_history.specs.declared.entries.Entry.{Entry}
 use Rattle.kc_history.specs.declared.replies.Reply.{Reply}
 use Rattle.kc_history.specs.Replies.{AreExplained}
@@ -15,14 +16,8 @@ fewer n history from zero rs e = tt
 fewer n history from (suc k) [] e = tt
 fewer n history from (suc k) (r ∷ rs) e = (e.0, (e.1.0, (e.1.1.0, fewer n history e.0 k rs e.1.1.1)))
 
-take_fewer : (j k : ℕ) (rs : List Reply) → j ≤ k → take j (take k rs) ≡ take j rs
-take_fewer zero k rs h = refl
-take_fewer (suc j) zero rs h = absurd (omega (arith, h))
-take_fewer (suc j) (suc k) [] h = refl
-take_fewer (suc j) (suc k) (r ∷ rs) h = ap (λ (xs : List Reply). r ∷ xs) (take_fewer j k rs (omega (arith, h)))
-
 shorter : (run : RunText) (j k : ℕ) (rs : List Reply) → j ≤ k → IsExplained run (take k rs) → IsExplained run (take j rs)
-shorter run j k rs h e = rw (take_fewer j k rs h) at (fewer run.vertices _ 0 j (take k rs) e)
+shorter run j k rs h e = rw (take-take j k rs h) at (fewer run.vertices _ 0 j (take k rs) e)
 
 explained_here : (run : RunText) (rs : List Reply) (ask : ℕ) → IsExplained run rs → IsFirstUnexplained run rs ask → ⊥
 explained_here run rs ask e f = f.unfit (fewer run.vertices _ 0 ask rs e)

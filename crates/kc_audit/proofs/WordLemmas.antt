@@ -2,10 +2,10 @@
 use Rattle.std.proofs.Common.{ℕ, ◌≡◌, ◌<◌, ◌+◌, ◌-◌, Bool, true, false, ◌&&◌, cond, arith, length, take, List, [], ◌∷◌, ◌++◌, drop, refl, ap, sym, append_assoc}
 use Rattle.std.specs.Prelude.{Option, Some, None, ◌==◌}
 use Rattle.std.specs.List.{position, position_or_len}
-use Rattle.std.proofs.lemmas.List.{append-nil, drop_all, take_all, length-drop}
+use Rattle.std.proofs.lemmas.List.{append-nil, drop_all}
 use Rattle.std.proofs.lemmas.Bool.Decides.{nat_tests}
 use Rattle.std.specs.Str.{bytes_eq}
-use Rattle.std.proofs.lemmas.Option.{same_Some}
+use Rattle.std.proofs.lemmas.Option.{same_Some, cond_some}
 use Rattle.kc_text.specs.Words.{words}
 use Rattle.kc_text.specs.Numbers.{number_of, NumberAt, IsNoNumber}
 use Rattle.kc_history.specs.declared.replies.Reply.{Reply}
@@ -75,12 +75,8 @@ pub record IsPlace (p : ℕ → Bool) (xs : List ℕ) (i : ℕ) : Type 0 where
   pub place : position_or_len p xs ≡ i
   pub within : i < length xs
 
-chosen : (b : Bool) (i j : ℕ) → cond b (Some i) None ≡ Some j → (b ≡ true) × (i ≡ j)
-chosen true i j e = (refl, same_Some _ _ e)
-chosen false i j e = absurd cc
-
 pub place_found : (p : ℕ → Bool) (xs : List ℕ) (i : ℕ) → Some i ≡ position p xs → IsPlace p xs i
-place_found p xs i e = grind (arith, nat_tests, chosen)
+place_found p xs i e = grind (arith, nat_tests, cond_some)
 
 not_chosen : (b : Bool) (i : ℕ) → cond b (Some i) None ≡ None → b ≡ false
 not_chosen true i e = absurd cc
@@ -110,7 +106,3 @@ pub pairs_next : (mark : ℕ) (front : List Reply) (w : List ℕ) (r : Reply) (m
     → pairs_behind front (pairs_of mark ws) ≡ pairs_behind (front ++ r ∷ []) (pairs_of mark more)
 unfolding pairs_of
 pairs_next mark front w r more ws e f = rw (e, sym f) (pair_next front r (pairs_of mark more))
-
--- what stands from a place on
-pub to_the_end : (xs : List ℕ) (i : ℕ) → take (length xs - i) (drop i xs) ≡ drop i xs
-to_the_end xs i = take_all (length xs - i) (drop i xs) (omega (arith, length-drop i xs))

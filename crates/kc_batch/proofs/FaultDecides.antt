@@ -5,7 +5,6 @@ use Rattle.std.proofs.lemmas.List.{append-nil}
 use Rattle.std.proofs.lemmas.List.Elements.{All-head, All-tail}
 use Rattle.std.proofs.lemmas.Bool.Decides.{nat_tests}
 use Rattle.kc_graph.specs.declared.items.Item.{Item}
-use Rattle.kc_graph.specs.declared.items.Item.TheVariants.{Insert, Delete, Isolate}
 use Rattle.kc_text.specs.declared.reason.Reason.{Reason}
 use Rattle.kc_batch.specs.declared.rules.Rules.{Rules}
 use Rattle.kc_batch.specs.declared.token.Token.{Token}
@@ -13,15 +12,10 @@ use Rattle.kc_batch.specs.declared.token.Kind.{Kind}
 use Rattle.kc_batch.specs.declared.token.Kind.TheVariants as kind
 use Rattle.kc_batch.specs.declared.turn.Turn.TheVariants.{Pass, Stop}
 use Rattle.kc_batch.specs.declared.batch.Next.TheVariants.{Refused}
-use Rattle.kc_graph.specs.Cleaning.{IsInside}
-use Rattle.kc_batch.specs.Turns.{is_inside, turn_of, IsItemOf}
+use Rattle.kc_batch.specs.Turns.{turn_of, IsItemOf}
 use Rattle.kc_batch.specs.Batches.{whole, Within, after_end, batch_from, batch_of}
 use Rattle.kc_batch.specs.FaultLaw.{line_at, item_lines, items_of, is_passed, FirstFaultDecides}
-
-inside_tests : (n : ℕ) (i : Item) → IsInside n i → is_inside n i ≡ true
-inside_tests n (Insert u v) h = grind (arith, nat_tests, h.0, h.1)
-inside_tests n (Delete u v) h = grind (arith, nat_tests, h.0, h.1)
-inside_tests n (Isolate v) h = grind (arith, nat_tests, h)
+use Rattle.kc_batch.proofs.Aheads.{is_inside_of}
 
 -- an allowed item is added
 adds : (rules : Rules) (m : ℕ) (front : List Item) (i : Item) (rest : List Token) → IsItemOf rules i → length front < rules.item_limit
@@ -29,7 +23,7 @@ adds : (rules : Rules) (m : ℕ) (front : List Item) (i : Item) (rest : List Tok
 unfolding batch_from
 adds rules m front i rest h l =
     let full : nat_le rules.item_limit (length front) ≡ false = grind (arith, nat_tests) in
-    rw (h.allowed, inside_tests rules.n i h.inside, full) refl
+    rw (h.allowed, is_inside_of rules.n i h.inside, full) refl
 
 -- several allowed items are added
 adds_all : (rules : Rules) (front : List Item) (ls : List (ℕ × Item)) (rest : List Token) → All (λ l. IsItemOf rules l.1) ls → length front + length ls ≤ rules.item_limit

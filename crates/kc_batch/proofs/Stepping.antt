@@ -32,10 +32,6 @@ step_last F G t old (Some rest) e s b h =
     let r : rest ≡ t ∷ [] = same_Some _ _ (s ∙ e) ∙ ap (λ x. t ∷ x) (b rest) in
     rw (e, b rest) (ap Some h ∙ ap (λ x. Some (G x)) (sym r))
 
-pub map_same : {X : Type 0} (o : Option X) → option_map (λ x. x) o ≡ o
-map_same None = refl
-map_same (Some x) = refl
-
 -- a line that is passed over
 pub record PassedBy (k : Kind) : Type 0 where
   pub behind : (rest : List Token) → behind_kind k rest ≡ rest

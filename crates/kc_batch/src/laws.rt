@@ -6,6 +6,7 @@ ghost use Rattle.kc_batch.specs.RangeLaw.{BatchesKeepRanges};
 ghost use Rattle.kc_batch.specs.Laws.{ReadsSnap, ReadsHeaders, RefusesAsks, ReadsBatches, RefusesBatches, ReadsIsolations, PassesOver};
 
 /// The first fault of a batch decides its result, and which lines are passed over after it.
+#[tactic(auto, using(crate::proofs::FaultDecides::first_fault_decides))]
 pub fn first_fault_decides()
     ensures { FirstFaultDecides }
 {}
@@ -18,11 +19,13 @@ pub fn batches_follow()
 
 /// The lines of an input that aren't skipped end with one `End` or `Limit`, and no line before it is either. The lines
 /// are numbered from 1 on, so no header is refused at a line 0.
+#[tactic(auto, using(crate::proofs::LineEnds::lines_end_once))]
 pub fn lines_end_once()
     ensures { LinesEndOnce }
 {}
 
 /// A header ends before the first line that is no ask line. It is refused at its first faulty line.
+#[tactic(auto, using(crate::proofs::HeaderEnds::first_other_line_ends))]
 pub fn first_other_line_ends()
     ensures { FirstOtherLineEnds }
 {}
@@ -63,6 +66,7 @@ pub fn lines_passed_over()
 {}
 
 /// Each batch of any lines keeps its ranges: its items are at most the limit, and their vertices below n.
+#[tactic(auto, using(crate::proofs::BatchRanges::batches_keep_ranges))]
 pub fn batches_keep_ranges()
     ensures { BatchesKeepRanges }
 {}

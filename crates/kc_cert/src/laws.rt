@@ -4,6 +4,7 @@ ghost use Rattle.kc_cert.specs.Laws.{CertificateIsReadBack, HasVerdict, VerdictI
 use kc_levels::laws::thresholds_fit;
 
 /// A certificate within the limits is read back from its text as itself, after any skipped lines.
+#[tactic(auto, using(crate::proofs::ReadBack::certificate_back))]
 pub fn certificate_is_read_back()
     ensures { CertificateIsReadBack }
 {}
@@ -14,6 +15,7 @@ pub fn certificates_read()
 {}
 
 /// Each certificate has a verdict, and those within the limits exactly one. It is `Certified` if both invariants hold.
+#[tactic(auto, using(crate::proofs::SomeVerdict::has_verdict, crate::proofs::OneVerdict::one_verdict, crate::proofs::SomeVerdict::verdict_is_certified))]
 pub fn certificate_has_verdict()
     ensures some { HasVerdict }
     ensures one { VerdictIsOne }

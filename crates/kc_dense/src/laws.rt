@@ -3,6 +3,7 @@
 ghost use Rattle.kc_dense.specs.Laws.{EachHasPeelingList, PeelingListIsOne, EachHasDensePart, DensePartIsOne, DensePartIsHalfAsDense};
 
 /// Each graph has exactly one peeling list.
+#[tactic(auto, using(crate::proofs::PeelingLemmas::each_has_peeling_list, crate::proofs::PeelingLemmas::peeling_list_is_one))]
 pub fn peeling_list_is_one()
     ensures some { EachHasPeelingList }
     ensures one { PeelingListIsOne }
@@ -15,6 +16,7 @@ pub fn dense_part_is_one()
 {}
 
 /// The dense part is at least half as dense as any set of vertices of the graph.
+#[tactic(auto, using(crate::proofs::FactorLemmas::dense_part_is_half_as_dense))]
 pub fn dense_part_is_half_as_dense()
     ensures { DensePartIsHalfAsDense }
 {}

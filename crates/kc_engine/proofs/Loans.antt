@@ -2,6 +2,7 @@
 use Rattle.std.proofs.Common.{◌≡◌, ◌≢◌, ◌⊎◌, ℕ, ◌+◌, ◌*◌, ◌<◌, ◌≤◌, List, [], ◌∷◌, ◌++◌, length, get_or, All, Contains, refl, sym, ap, ◌∙◌, subst, arith, ⊎_elim, append-nil, Bool, true, false, nat_eq, nat_lt, if◌then◌else◌}
 use Rattle.std.proofs.lemmas.List.Elements.{All-nil, All-cons, All-head, All-tail, All-push, All-weaker, Contains-get_or, Contains-push, Contains-append_left, Contains-append_right}
 use Rattle.std.proofs.lemmas.Bool.Decides.{nat_tests}
+use Rattle.std.proofs.lemmas.Bool.{le-ltb, lt-ltb}
 use mathlib.Core.Logic.{dite}
 use native.Mathlib.Decide.{dec_le}
 use Rattle.atomic_table.specs.Seated.{TableId}
@@ -48,15 +49,9 @@ lent_more table g from to old mid new ms ns m h later is made longer =
 pub next_place : (k size : ℕ) → (k + 1) * size ≡ k * size + size
 next_place k size = omega arith
 
-early_test : (g p : ℕ) → p ≤ g → nat_lt g p ≡ false
-early_test g p le = grind (arith, nat_tests)
-
-late_test : (g p : ℕ) → g < p → nat_lt g p ≡ true
-late_test g p lt = grind (arith, nat_tests)
-
 due_test : (task : Task) (g p : ℕ) → IsDue task g p → nat_lt g p ≡ is_late task
-due_test Mark g p le = early_test g p le
-due_test Clear g p lt = late_test g p lt
+due_test Mark g p le = le-ltb g p le
+due_test Clear g p lt = lt-ltb g p lt
 
 pub may_do : (table other : TableId) (plan : PhasePlan) (task : Task) (g end : ℕ) (old new : WriterState) (ms : List MarkerShape) → table ≡ other → plan ≡ old.plan → IsDue task g old.published → AreLent table g end old new ms → All (MayDo other plan task) ms
 may_do table other plan task g end old new ms t is due h k d lt =

@@ -1,7 +1,8 @@
 -- Phases are shown one after another.
-use Rattle.std.proofs.Common.{◌≡◌, ℕ, ◌+◌, ◌<◌, ◌≤◌, List, [], ◌∷◌, ◌++◌, length, get_or, take, drop, suc, zero, refl, sym, ap, ◌∙◌, subst, arith, append_assoc, append-nil}
+use Rattle.std.proofs.Common.{◌≡◌, ℕ, ◌+◌, ◌<◌, ◌≤◌, List, [], ◌∷◌, ◌++◌, length, get_or, take, drop, suc, refl, sym, ap, ◌∙◌, subst, arith, append_assoc, append-nil}
 use Rattle.std.proofs.lemmas.Bool.Decides.{nat_tests}
-use Rattle.kc_history.specs.declared.entries.Entry.{Entry}
+use Rattle.std.proofs.lemmas.List.{drop_more}
+use Rattle.std.proofs.Math.Seq.{take-length}
 use Rattle.kc_history.specs.declared.limits.TheConstants.{MAX_PHASE}
 use Rattle.kc_groups.specs.declared.plans.PhasePlan.{PhasePlan}
 use Rattle.kc_groups.specs.Entries.{entries_of, entries_in}
@@ -23,32 +24,17 @@ pub record IsOnTheWay (n : ℕ) (plans rest : List PhasePlan) (old new : WriterS
 pub way_begins : (n : ℕ) (plans : List PhasePlan) (s : WriterState) → IsIdle s → GoOn n s.phase s.history plans → IsOnTheWay n plans plans s s
 way_begins n plans s idle on = record { vertices = refl; history = refl; phase = refl; idle = idle; goes_on = on }
 
-pub drop_more : (xs : List PhasePlan) (k : ℕ) (d : PhasePlan) → k < length xs → drop k xs ≡ get_or xs k d ∷ drop (k + 1) xs
-drop_more [] k d lt = absurd (omega (arith, lt))
-drop_more (x ∷ xs) zero d lt = grind (arith, nat_tests)
-drop_more (x ∷ xs) (suc k) d lt = let e : suc (k + 1) ≡ suc k + 1 = omega arith in drop_more xs k d (omega (arith, lt)) ∙ ap (λ (z : ℕ). get_or xs k d ∷ drop z (x ∷ xs)) e
-
 pub may_begin : (n : ℕ) (plans rest : List PhasePlan) (plan : PhasePlan) (old mid : WriterState) → old.vertices ≡ n → old.phase + length plans ≤ MAX_PHASE → IsOnTheWay n plans (plan ∷ rest) old mid → MayBegin mid plan
 may_begin n plans rest plan old mid vertices few h = grind (arith, nat_tests, h.goes_on.0, h.vertices, h.phase, h.idle.published, h.idle.cleared, h.idle.loans)
 
 take_whole : (plan : PhasePlan) → take (length plan.groups + 1) (entries_of plan) ≡ entries_of plan
-take_whole plan = let e : length plan.groups + 1 ≡ suc (length plan.groups) = omega arith in ap (λ (k : ℕ). take k (entries_of plan)) e ∙ all (entries_of plan)
-  where
-    all : (es : List Entry) → take (length es) es ≡ es
-    all [] = refl
-    all (e ∷ es) = ap (λ (zs : List Entry). e ∷ zs) (all es)
+take_whole plan = let e : length plan.groups + 1 ≡ suc (length plan.groups) = omega arith in ap (λ (k : ℕ). take k (entries_of plan)) e ∙ take-length (entries_of plan)
 
 pub way_more : (n : ℕ) (plans rest : List PhasePlan) (plan : PhasePlan) (old mid new : WriterState) → IsOnTheWay n plans (plan ∷ rest) old mid → HasShown plan (length plan.groups) mid new → IsOnTheWay n plans rest old new
 way_more n plans rest plan old mid new h k = grind (arith, nat_tests, take_whole, append_assoc, idle_shown, k.history, k.phase, h.phase, k.vertices, h.vertices, h.history, h.goes_on.1)
 
 pub way_ends : (n : ℕ) (plans rest : List PhasePlan) (old new : WriterState) → rest ≡ [] → IsOnTheWay n plans rest old new → AreShown plans old new
 way_ends n plans rest old new none h = grind (arith, nat_tests, append-nil, h.phase, h.vertices, h.history, h.idle)
-
-pub drop_all : (xs : List PhasePlan) (k : ℕ) → length xs ≤ k → drop k xs ≡ []
-drop_all [] zero le = refl
-drop_all [] (suc k) le = refl
-drop_all (x ∷ xs) zero le = absurd (omega (arith, le))
-drop_all (x ∷ xs) (suc k) le = drop_all xs k (omega (arith, le))
 
 pub drop_none : (xs : List PhasePlan) → drop 0 xs ≡ xs
 drop_none [] = refl

@@ -25,6 +25,7 @@ pub fn phases_are_one()
 {}
 
 /// The phases of a batch are numbered on from those before it, and each has its plan.
+#[tactic(auto, using(crate::proofs::PhaseLaw::phases_are_numbered_on))]
 pub fn phases_are_numbered_on()
     ensures { PhasesAreNumberedOn }
 {}

@@ -26,6 +26,7 @@ pub fn neighbours_are_joined()
 {}
 
 /// Two graphs with the same vertices and the same edges are one.
+#[tactic(auto, using(crate::proofs::EdgeLemmas::same_graph))]
 pub fn graph_is_its_edges()
     ensures { GraphIsItsEdges }
 {}
@@ -37,12 +38,14 @@ pub fn cleaned_fits_graph()
 {}
 
 /// Removing and adding the edges of a cleaned batch leads to the same graph as its items, one after another.
+#[tactic(auto, using(crate::proofs::CleaningLawLemmas::cleaned_leads_as_items))]
 pub fn cleaned_leads_as_items()
     ensures { CleanedLeadsAsItems }
 {}
 
 /// Each item of a batch is counted once: as a loop, a repeat or idle, or by the edge that it removes
 /// or adds.
+#[tactic(auto, using(crate::proofs::CountingLemmas::each_item_counts_once))]
 pub fn each_item_counts_once()
     ensures { EachItemCountsOnce }
 {}

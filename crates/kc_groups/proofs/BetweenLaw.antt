@@ -1,6 +1,6 @@
 -- The points of a phase lie between its ends.
-use Rattle.std.proofs.Common.{ℕ, suc, zero, ◌≤◌, ◌<◌, ◌≡◌, ◌≢◌, ◌⊎◌, inl, inr, Bool, true, false, not, ◌||◌, ◌&&◌, List, [], ◌∷◌, length, get_or, map, filter, take, refl, ap, sym, ◌∙◌, arith}
-use Rattle.std.proofs.lemmas.Bool.{cases_eq, cases_lt, cases_Bool, true≢false}
+use Rattle.std.proofs.Common.{ℕ, suc, zero, ◌≤◌, ◌<◌, ◌≡◌, ◌≢◌, ◌⊎◌, inl, inr, Bool, true, false, not, ◌||◌, ◌&&◌, List, [], ◌∷◌, get_or, map, filter, take, refl, ap, sym, ◌∙◌, arith}
+use Rattle.std.proofs.lemmas.Bool.{cases_eq, cases_Bool, true≢false}
 use Rattle.std.proofs.lemmas.Bool.Decides.{nat_tests}
 use Rattle.std.proofs.lemmas.List.{get_or_past, take-map}
 use Rattle.std.proofs.Math.Bool.{or-true}
@@ -12,6 +12,7 @@ use Rattle.kc_graph.proofs.lemmas.Edges.{joined_inside, has_edge-filter}
 use Rattle.kc_levels.specs.LevelList.{IsBelow}
 use Rattle.kc_levels.specs.Between.{IsBetween}
 use Rattle.kc_levels.specs.Moved.{is_moved}
+use Rattle.kc_levels.proofs.lemmas.AtLeast.{below_everywhere}
 use Rattle.kc_history.specs.declared.entries.Entry.{Entry}
 use Rattle.kc_history.specs.Points.{graph_after, levels_after}
 use Rattle.kc_groups.specs.declared.plans.PhasePlan.{PhasePlan}
@@ -28,10 +29,6 @@ use Rattle.kc_groups.proofs.LeadLaw.{AreOnTheWay, groups_lead, any_has, plan_tow
 and_second : (a b : Bool) → a && b ≡ true → b ≡ true
 and_second true b h = h
 and_second false b h = absurd (true≢false (sym h))
-
--- a list that is nowhere above another within their length is nowhere above it at all
-all_below : (n : ℕ) (x y : List ℕ) → length x ≡ n → IsBelow n x y → (w : ℕ) → get_or x w 0 ≤ get_or y w 0
-all_below n x y sized low w = elim (cases_lt w n) [ inl inside ↦ low w inside | inr out ↦ omega (arith, get_or_past x w 0 (omega (arith, out, sized))) ]
 
 below_take : (n k : ℕ) (xs : List ℕ) → AllBelow n xs → AllBelow n (take k xs)
 below_take n zero xs below = tt
@@ -102,10 +99,10 @@ module _ (phase : ℕ) (add : Bool) (edges : List Pair) (x y labels : List ℕ) 
       either w = grind (arith, nat_tests, common_steps, get_or_past, way.sized, is.before, way.reached, way.left)
 
       from_old : (w : ℕ) → IsBelow g.vertices x y → (get_or x w 0 ≤ get_or z w 0) × (get_or z w 0 ≤ get_or y w 0)
-      from_old w low = grind (arith, nat_tests, common_steps, all_below, either, is.before)
+      from_old w low = grind (arith, nat_tests, common_steps, below_everywhere, either, is.before)
 
       from_new : (w : ℕ) → IsBelow g.vertices y x → (get_or y w 0 ≤ get_or z w 0) × (get_or z w 0 ≤ get_or x w 0)
-      from_new w low = grind (arith, nat_tests, common_steps, all_below, either, is.after)
+      from_new w low = grind (arith, nat_tests, common_steps, below_everywhere, either, is.after)
 
 joined_same : (v w : ℕ) (es fs : List Pair) → has_edge (v, w) es ≡ has_edge (v, w) fs → has_edge (w, v) es ≡ has_edge (w, v) fs → joined v w es ≡ joined v w fs
 joined_same v w es fs a b = ap (λ t. t || has_edge (w, v) es) a ∙ ap (λ t. has_edge (v, w) fs || t) b
@@ -235,7 +232,7 @@ insertion_first edges x y g before is graph same new low = record {
   };
   sized = is.before ∙ sym same;
   above = λ w. omega arith;
-  below = λ w. all_below g.vertices x y is.before low w;
+  below = λ w. below_everywhere g.vertices x y w is.before low;
   more = λ v w share. share;
   fewer = λ v w. joined_more v w before.edges g.edges (λ e has. ap (λ (t : GraphShape). has_edge e t.edges) new ∙ has_edge-with_edges e before edges ∙ ap (λ b. has_edge e edges || b) has ∙ or-true (has_edge e edges));
   each = λ v h. inr (inl (record { level = refl; edges = λ w. refl; levels = λ w share. refl }));
@@ -251,7 +248,7 @@ deletion_first edges x y g is low = record {
     same_upper = refl;
   };
   sized = is.before;
-  above = λ w. all_below g.vertices y x is.after low w;
+  above = λ w. below_everywhere g.vertices y x w is.after low;
   below = λ w. omega arith;
   more = λ v w. joined_more v w (without_edges g edges).edges g.edges (λ e has. and_second (not (has_edge e edges)) (has_edge e g.edges) (sym (has_edge-without_edges e g edges) ∙ has));
   fewer = λ v w share. share;

@@ -1,9 +1,9 @@
 -- A well-formed plan has at most as many groups, and each group at most as many moves, as there are vertices.
-use Rattle.std.proofs.Common.{ℕ, ◌≤◌, ◌<◌, ◌≡◌, ◌≢◌, Bool, true, false, ◌||◌, List, [], ◌∷◌, length, get_or, map, All, suc, zero, refl, sym, ap, ◌∙◌, subst, arith, eqb, ne_eqb}
+use Rattle.std.proofs.Common.{ℕ, ◌≤◌, ◌<◌, ◌≡◌, ◌≢◌, Bool, true, false, ◌||◌, List, [], ◌∷◌, length, get_or, All, suc, zero, refl, sym, ap, ◌∙◌, subst, arith, eqb, ne_eqb}
 use Rattle.std.specs.List.{IsDistinct, AllByRecursion, list_any}
 use Rattle.std.proofs.lemmas.Bool.Decides.{nat_tests}
 use Rattle.std.proofs.lemmas.Map.Steps.{length-le_from_distinct_below}
-use Rattle.std.proofs.lemmas.List.{get_or-map}
+use Rattle.std.proofs.lemmas.List.{get_or-map, length-map}
 use Rattle.std.proofs.lemmas.Grind.{common_steps}
 use Rattle.kc_graph.proofs.lemmas.Numbers.{length-rising}
 use Rattle.kc_levels.specs.declared.moves.Move.{Move}
@@ -32,19 +32,15 @@ below_from n q (x ∷ xs) h on = go (eqb q x) refl (below_from n q xs (λ i lt. 
     go true t rest = let e : q ≡ x = grind (arith, nat_tests, t) in let lt = h 0 (omega arith) in omega (arith, e, lt)
     go false t rest = rest (ap (λ b. b || list_any (eqb q) xs) (sym t) ∙ on)
 
-same_length : {A B : Type 0} → (f : A → B) (xs : List A) → length (map f xs) ≡ length xs
-same_length f [] = refl
-same_length f (x ∷ xs) = ap suc (same_length f xs)
-
 few_groups : (n : ℕ) (plan : PhasePlan) → IsWellFormed n plan → length plan.groups ≤ n
-few_groups n plan w = grind (arith, nat_tests, common_steps, length-rising, same_length, w.labels, w.labels_rise, w.labels_below, w.labels_are)
+few_groups n plan w = grind (arith, nat_tests, common_steps, length-rising, length-map, w.labels, w.labels_rise, w.labels_below, w.labels_are)
 
 few_moves : (n : ℕ) (plan : PhasePlan) → IsWellFormed n plan → All (λ (e : Entry). length e.moves ≤ n) plan.groups
 few_moves n plan w k d inside =
     let e : Entry = get_or plan.groups k d in
     let same : get_or plan.groups k plan.quiet ≡ e = any plan.groups k plan.quiet d inside in
     let vs = vertices_of e in
-    let size = same_length (λ (m : Move). m.vertex) e.moves in
+    let size = length-map e.moves (λ (m : Move). m.vertex) in
     let most : length vs ≤ n = length-le_from_distinct_below vs n
     (distinct_from vs (λ i j a b s. (w.once k k i j inside inside
     (subst (λ (z : Entry). i < length (vertices_of z)) (sym same) a) (subst (λ (z : Entry). j < length (vertices_of z)) (sym same) b)

@@ -7,8 +7,7 @@ use Rattle.std.proofs.lemmas.Grind.{same_number_lists}
 use Rattle.std.proofs.Math.Seq.{map-set_same}
 use Rattle.kc_graph.specs.Numbers.{has_number}
 use Rattle.kc_insert.specs.declared.rising.RisingLevels.{RisingLevels}
-use Rattle.kc_insert.specs.private.Rising.{rises, seen, level_of}
-use Rattle.kc_insert.specs.private.Rising.{all_at}
+use Rattle.kc_insert.specs.private.Rising.{rises, seen, level_of, all_at}
 use Rattle.kc_insert.proofs.Lifting.{length-all_at, all_at_here, all_at_other}
 
 pub length-seen : (s : RisingLevels) → length (seen s) ≡ length s.stored

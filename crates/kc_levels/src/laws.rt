@@ -52,6 +52,7 @@ pub fn phases_keep_both()
 /// The sequences of a profile never fall. The height of a band and the last band are the least numbers for their
 /// purpose, for every number of vertices. The top is at most 5,042 in profile 1 and 16,769 in profile 2, for up to
 /// `MAX_VERTICES` vertices. No vertex breaks both invariants.
+#[tactic(auto, using(crate::proofs::FitLaws::sequences_rise, crate::proofs::FitLaws::height_is_least, crate::proofs::FitLaws::last_group_is_least, crate::proofs::FitLaws::top_is_low, crate::proofs::FitLaws::none_breaks_both))]
 pub fn thresholds_fit()
     ensures rise { SequencesRise }
     ensures height { HeightIsLeast }

@@ -1,8 +1,8 @@
 -- Each orientation has a colouring.
-use Rattle.std.proofs.Common.{ℕ, suc, zero, ◌+◌, ◌≤◌, ◌<◌, ◌≡◌, inl, inr, Bool, true, false, eqb, ◌||◌, List, [], ◌∷◌, length, get_or, map, refl, ap, sym, ◌∙◌, arith}
+use Rattle.std.proofs.Common.{ℕ, suc, zero, ◌+◌, ◌≤◌, ◌<◌, ◌≡◌, inl, inr, true, false, eqb, List, [], ◌∷◌, length, get_or, map, refl, ap, sym, ◌∙◌, arith}
 use Rattle.std.specs.Prelude.{not}
 use Rattle.std.specs.List.{range_with_len}
-use Rattle.std.proofs.lemmas.Bool.{cases_eq, cases_Bool, true≢false, eq-eqb, not-true}
+use Rattle.std.proofs.lemmas.Bool.{cases_eq, cases_Bool, true≢false, eq-eqb, not-true, or_right}
 use Rattle.std.proofs.lemmas.Bool.Decides.{nat_tests}
 use Rattle.std.proofs.lemmas.List.FromFn.{get_or-map-range_with_len, length-map-range_with_len}
 use Rattle.kc_graph.specs.Numbers.{has_number}
@@ -53,10 +53,6 @@ has_number-map f w (u ∷ ws) at = elim (cases_eq u w) [
   | inl same ↦ rw (eq-eqb (f u) (f w) (ap f same)) refl
   | inr ne ↦ let later = has_number-map f w ws (grind (arith, nat_tests, at, ne)) in or_right (eqb (f u) (f w)) _ later
 ]
-  where
-    or_right : (a b : Bool) → b ≡ true → (a || b) ≡ true
-    or_right true b e = refl
-    or_right false b e = e
 
 from_map : (f : ℕ → ℕ) (j : ℕ) (ws : List ℕ) → has_number j (map f ws) ≡ true → (w : ℕ) × (has_number w ws ≡ true) × (f w ≡ j)
 from_map f j [] at = absurd (true≢false (sym at))
@@ -64,18 +60,10 @@ from_map f j (u ∷ ws) at = elim (cases_eq (f u) j) [
   | inl same ↦ (u, rw (eq-eqb u u refl) refl, same)
   | inr ne ↦ let rest = from_map f j ws (grind (arith, nat_tests, at, ne)) in (rest.0, or_right (eqb u rest.0) _ rest.1, rest.2)
 ]
-  where
-    or_right : (a b : Bool) → b ≡ true → (a || b) ≡ true
-    or_right true b e = refl
-    or_right false b e = e
 
 map_same : (f h : ℕ → ℕ) (ws : List ℕ) → ((w : ℕ) → has_number w ws ≡ true → f w ≡ h w) → map f ws ≡ map h ws
 map_same f h [] each = refl
 map_same f h (w ∷ ws) each = rw (each w (rw (eq-eqb w w refl) refl), map_same f h ws (λ u at. each u (or_right (eqb w u) _ at))) refl
-  where
-    or_right : (a b : Bool) → b ≡ true → (a || b) ≡ true
-    or_right true b e = refl
-    or_right false b e = e
 
 -- colours by a number of steps upward, and how many are enough
 

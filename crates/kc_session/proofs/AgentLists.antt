@@ -4,6 +4,7 @@ use Rattle.std.specs.Prelude.{All}
 use Rattle.std.proofs.lemmas.List.{take-append-le}
 use Rattle.std.proofs.lemmas.List.Elements.{All-nil, All-cons}
 use Rattle.std.proofs.lemmas.Bool.Decides.{nat_tests}
+use Rattle.std.proofs.Math.Seq.{take-length}
 use Rattle.kc_history.specs.declared.entries.Entry.{Entry}
 use Rattle.kc_history.specs.declared.replies.Reply.{Reply}
 use Rattle.kc_history.specs.Replies.{AreExplained, vertices_of}
@@ -12,7 +13,6 @@ use Rattle.kc_batch.specs.declared.ask.Ask.{Ask}
 use Rattle.kc_store.specs.declared.roles.WriterState.{WriterState}
 use Rattle.kc_store.specs.Seats.{StoreShape}
 use Rattle.kc_session.specs.Agents.{AgentShape, agent_for, questions}
-use Rattle.kc_session.proofs.Lists.{take_all}
 use Rattle.kc_session.specs.Asking.{HasRun, HaveRun, agents_for, Fit, AreClosed}
 
 -- one more agent
@@ -84,7 +84,7 @@ closed_explained store first history k (ask ∷ asks) (b ∷ bs) (rs ∷ more) r
 written : {A : Type 0} → (n : ℕ) (xs ys : List A) → n ≡ length xs → length ys ≡ length xs → take n (ys ++ drop (length ys) xs) ≡ ys
 written n xs ys here same =
     let e : n ≡ length ys = here ∙ sym same in
-    take-append-le n ys (drop (length ys) xs) (omega (arith, e)) ∙ (ap (λ k. take k ys) e ∙ take_all ys)
+    take-append-le n ys (drop (length ys) xs) (omega (arith, e)) ∙ (ap (λ k. take k ys) e ∙ take-length ys)
 
 pub all_have_run : (k : ℕ) (first slice new : List AgentShape) → slice ≡ first → length new ≡ length slice → length slice ≡ k → ((i : ℕ) (d : AgentShape) → i < length slice → HasRun (get_or slice i d) (get_or new i d))
     → HaveRun first (take k (new ++ drop (length new) first))

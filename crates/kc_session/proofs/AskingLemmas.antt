@@ -3,7 +3,7 @@ use Rattle.std.proofs.Common.{ℕ, suc, zero, ◌≡◌, ◌+◌, ◌*◌, ◌<�
 use Rattle.std.specs.Prelude.{All}
 use Rattle.std.proofs.lemmas.List.Elements.{All-nil, All-cons, All-head, All-tail}
 use Rattle.std.proofs.lemmas.Bool.Decides.{nat_tests}
-use Rattle.std.proofs.lemmas.List.{take_more_set}
+use Rattle.std.proofs.lemmas.List.{take_more_set, length-set}
 use mathlib.Core.List.{IsPrefix}
 use Rattle.kc_history.specs.declared.entries.Entry.{Entry}
 use Rattle.kc_history.specs.declared.replies.Reply.{Reply}
@@ -81,11 +81,6 @@ pub record IsAsking (n : ℕ) (first : PassShape) (asked : List Reply) (i : ℕ)
   pub vertices : vertices_of replies ≡ vertices_of asked
   pub sized : length replies ≡ length asked
   pub explained : AreExplained n pass.seen first.made (take i replies)
-
-length-set : (xs : List Reply) (i : ℕ) (r : Reply) → length (set xs i r) ≡ length xs
-length-set [] i r = refl
-length-set (x ∷ xs) zero r = refl
-length-set (x ∷ xs) (suc i) r = ap suc (length-set xs i r)
 
 pub prefix_explains : (n : ℕ) (a b : List Entry) (from : ℕ) (rs : List Reply) → IsPrefix a b → AreExplained n a from rs → AreExplained n b from rs
 prefix_explains n a b from rs p h = subst (λ (c : List Entry). AreExplained n c from rs) p.1 (longer_explains n a p.0 from rs h)

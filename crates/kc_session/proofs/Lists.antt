@@ -1,7 +1,8 @@
 -- Lists, item by item.
-use Rattle.std.proofs.Common.{ℕ, suc, zero, ◌≡◌, ◌+◌, ◌<◌, List, [], ◌∷◌, ◌++◌, length, get_or, take, refl, ap, sym, ◌∙◌, arith, append_assoc, length-append, subst}
+use Rattle.std.proofs.Common.{ℕ, suc, zero, ◌≡◌, ◌+◌, ◌<◌, List, [], ◌∷◌, ◌++◌, length, get_or, take, ap, sym, ◌∙◌, arith, append_assoc, length-append, subst}
 use Rattle.std.specs.Prelude.{All}
 use Rattle.std.proofs.lemmas.Bool.Decides.{nat_tests}
+use Rattle.std.proofs.Math.Seq.{get_or-append_seam}
 
 take_suc : {A : Type 0} → (xs : List A) (i : ℕ) (d x : A) → i < length xs → x ≡ get_or xs i d → take (suc i) xs ≡ take i xs ++ x ∷ []
 take_suc [] i d x lt is = absurd (omega (arith, lt))
@@ -12,15 +13,6 @@ take_suc (y ∷ ys) (suc i) d x lt is = ap (λ zs. y ∷ zs) (take_suc ys i d x 
 pub take_snoc : {A : Type 0} → (xs : List A) (i : ℕ) (d x : A) → i < length xs → x ≡ get_or xs i d → take (i + 1) xs ≡ take i xs ++ x ∷ []
 take_snoc xs i d x lt is = let e : i + 1 ≡ suc i = omega arith in ap (λ k. take k xs) e ∙ take_suc xs i d x lt is
 
-pub take_all : {A : Type 0} → (xs : List A) → take (length xs) xs ≡ xs
-take_all [] = refl
-take_all (x ∷ xs) = ap (λ zs. x ∷ zs) (take_all xs)
-
--- an item after others
-pub at_end : {A : Type 0} → (xs : List A) (x : A) (ys : List A) (d : A) → get_or (xs ++ x ∷ ys) (length xs) d ≡ x
-at_end [] x ys d = refl
-at_end (z ∷ zs) x ys d = at_end zs x ys d
-
 -- one item was taken of those that are left
 pub moved_over : {A : Type 0} → (all past rest later : List A) (x : A) → past ++ rest ≡ all → rest ≡ x ∷ later → (past ++ x ∷ []) ++ later ≡ all
 moved_over all past rest later x e f = append_assoc past (x ∷ []) later ∙ (ap (λ zs. past ++ zs) (sym f) ∙ e)
@@ -30,7 +22,7 @@ pub next_of_all : {A : Type 0} → (P : A → Type 0) (all past rest later : Lis
 next_of_all P all past rest later x every e f =
     let whole : past ++ x ∷ later ≡ all = ap (λ zs. past ++ zs) (sym f) ∙ e in
     let size : length past < length all = (let z = ap (λ zs. length zs) whole in let y = length-append past (x ∷ later) in omega (arith, z, y)) in
-    let here : get_or all (length past) x ≡ x = ap (λ zs. get_or zs (length past) x) (sym whole) ∙ at_end past x later x in
+    let here : get_or all (length past) x ≡ x = ap (λ zs. get_or zs (length past) x) (sym whole) ∙ get_or-append_seam past x later x in
     subst P here (every (length past) x size)
 
 -- before an item there are fewer than in all

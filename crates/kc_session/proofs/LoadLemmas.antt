@@ -2,7 +2,7 @@
 use Rattle.std.proofs.Common.{ℕ, suc, zero, ◌+◌, ◌-◌, ◌<◌, ◌≤◌, ◌≡◌, ◌≢◌, Bool, true, false, List, [], ◌∷◌, ◌++◌, length, take, drop, refl, ap, sym, ◌∙◌, append_assoc, add-one, length-append, drop-drop, arith}
 use Rattle.std.specs.Prelude.{decimal, codes, min}
 use Rattle.std.specs.List.{flat_map, join_with_byte}
-use Rattle.std.proofs.lemmas.List.{flat_map_more, length-take, length-drop, take-append-le, take-append-drop, drop_all, take_all}
+use Rattle.std.proofs.lemmas.List.{flat_map_more, length-take, length-drop, take-append-le, take-append-drop, drop_all}
 use Rattle.std.proofs.Math.Seq.{take-append-add}
 use Rattle.std.proofs.lemmas.Bool.Decides.{nat_tests}
 use borrow.Rule.Slice.PartMut.{put_mid}
@@ -101,10 +101,6 @@ nothing_left old new next false m z = rw m.1.0 m.0
 pub same_vertices : (old new : Generator) (next : List ℕ) (made : Bool) → MakesIf old new next made → new.n ≡ old.n
 same_vertices old new next true m = m.vertices
 same_vertices old new next false m = ap (λ (g : Generator). g.n) m.1.0
-
--- the rest of a line, as a slice of it
-pub rest_of : (line : List ℕ) (at : ℕ) → take (length line - at) (drop at line) ≡ drop at line
-rest_of line at = take_all (length line - at) (drop at line) (omega (arith, length-drop at line))
 
 -- a part of a line was read
 pub part_given : (line more read : List ℕ) (at k : ℕ) → read ≡ take k (drop at line) → drop at line ++ more ≡ read ++ (drop (at + k) line ++ more)

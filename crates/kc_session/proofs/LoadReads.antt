@@ -2,7 +2,7 @@
 use Rattle.std.proofs.Common.{ℕ, suc, zero, ◌+◌, ◌*◌, ◌%◌, ◌^◌, ◌<◌, ◌≤◌, ◌≡◌, Bool, true, false, List, [], ◌∷◌, ◌++◌, length, map, refl, ap, ◌∙◌, append_assoc, add-one, add-zero, length-append, arith}
 use Rattle.std.specs.Prelude.{decimal, codes, min, nat_le, nat_lt, ◌==◌, if◌then◌else◌, Some}
 use Rattle.std.specs.List.{list_all, join_with_byte, flat_map}
-use Rattle.std.proofs.lemmas.Bool.{and_parts, and_from}
+use Rattle.std.proofs.lemmas.Bool.{and_parts, and_from, le-leb, lt-ltb, ltb-true}
 use Rattle.std.proofs.lemmas.Bool.Decides.{nat_tests}
 use Rattle.std.proofs.Math.Nat.{suc-mul}
 use Rattle.std.proofs.lemmas.Grind.{flat_map-append}
@@ -46,18 +46,11 @@ AreSaid : List (List (List ℕ)) → Type 0
 AreSaid [] = Unit {0}
 AreSaid (ws ∷ ls) = IsSaid ws × AreSaid ls
 
--- the words are printed as lines within the limit
-within : (a b : ℕ) → a ≤ b → nat_le a b ≡ true
-within a b h = grind (arith, nat_tests, h)
-
 are_lines : (limit : ℕ) (ls : List (List (List ℕ))) → 192 ≤ limit → AreSaid ls → list_all (is_line limit) ls ≡ true
 unfolding AreSaid
 are_lines limit [] h k = refl
 are_lines limit (ws ∷ ls) h k =
-    and_from _ _ (and_from _ _ k.0.words_are (within (length (join_with_byte 32 ws)) limit (omega (arith, k.0.short)))) (are_lines limit ls h k.1)
-
-below : (a b : ℕ) → a < b → nat_lt a b ≡ true
-below a b h = grind (arith, nat_tests, h)
+    and_from _ _ (and_from _ _ k.0.words_are (le-leb (length (join_with_byte 32 ws)) limit (omega (arith, k.0.short)))) (are_lines limit ls h k.1)
 
 -- the lines aren't skipped
 are_kept : (n : ℕ) (ls : List (List (List ℕ))) (rest : List Line) → AreSaid ls → kept (lines_of_words n ls ++ rest) ≡ lines_of_words n ls ++ kept rest
@@ -223,14 +216,11 @@ four : number_of (codes "4") ≡ Some 4
 unfolding value_from
 four = refl
 
-less : (a b : ℕ) → nat_lt a b ≡ true → a < b
-less a b h = grind (arith, nat_tests, h)
-
 numbers_said : (n : ℕ) (xs : List ℕ) → n ≤ 2 ^ 32 → list_all (λ v. nat_lt v n) xs ≡ true → numbers_of (map decimal xs) ≡ Some xs
 numbers_said n [] h k = refl
 numbers_said n (x ∷ xs) h k =
     let p = and_parts (nat_lt x n) (list_all (λ v. nat_lt v n) xs) k in
-    let small_x = less x n p.0 in
+    let small_x = ltb-true x n p.0 in
     let here : number_of (decimal x) ≡ Some x = numbers_are_read_back.value x (omega (arith, small_x)) in
     let rest : numbers_of (map decimal xs) ≡ Some xs = numbers_said n xs h p.1 in
     rw (here, rest) refl
@@ -238,7 +228,7 @@ numbers_said n (x ∷ xs) h k =
 first_below : (k n : ℕ) → k ≤ n → list_all (λ v. nat_lt v n) (first_numbers k) ≡ true
 unfolding first_numbers
 first_below zero n h = refl
-first_below (suc k) n h = list_all-append (λ v. nat_lt v n) (first_numbers k) (k ∷ []) ∙ and_from _ _ (first_below k n (omega arith)) (and_from _ _ (below k n (omega arith)) refl)
+first_below (suc k) n h = list_all-append (λ v. nat_lt v n) (first_numbers k) (k ∷ []) ∙ and_from _ _ (first_below k n (omega arith)) (and_from _ _ (lt-ltb k n (omega arith)) refl)
 
 is_beginning : (n : ℕ) → 1 ≤ n → n ≤ 16777216 → IsBeginning One n (record { number = 1; body = Text (join_with_byte 32 (codes "kcore" ∷ codes "1" ∷ [])) }) (record { number = 2; body = Text (join_with_byte 32 (codes "vertices" ∷ decimal n ∷ [])) })
 unfolding profile_in vertices_in
@@ -247,7 +237,7 @@ is_beginning n h k =
     let v : words (join_with_byte 32 (codes "vertices" ∷ decimal n ∷ [])) ≡ codes "vertices" ∷ decimal n ∷ [] = words_are_read_back (codes "vertices" ∷ decimal n ∷ []) (vertices_said n k).words_are in
     record {
       profile = rw w refl;
-      vertices = rw (v, numbers_are_read_back.value n (omega arith), within 1 n h, within n 16777216 k) refl;
+      vertices = rw (v, numbers_are_read_back.value n (omega arith), le-leb 1 n h, le-leb n 16777216 k) refl;
     }
 
 is_ask_line : (number n : ℕ) → 1 ≤ n → n ≤ 16777216 → IsAskLine n (record { number = number; body = Text (join_with_byte 32 (ask_words n)) }, load_ask n)
@@ -258,8 +248,8 @@ is_ask_line number n h k =
     let inside : list_all (λ v. nat_lt v n) vertices ≡ true = first_below (min n 16) n (omega arith) in
     let said : numbers_of (map decimal vertices) ≡ Some vertices = numbers_said n vertices (omega arith) inside in
     let count : length vertices ≡ min n 16 = first_length (min n 16) in
-    let some : nat_lt 0 (min n 16) ≡ true = below 0 (min n 16) (omega arith) in
-    let few : nat_le (4 * min n 16) 65536 ≡ true = within (4 * min n 16) 65536 (omega arith) in
+    let some : nat_lt 0 (min n 16) ≡ true = lt-ltb 0 (min n 16) (omega arith) in
+    let few : nat_le (4 * min n 16) 65536 ≡ true = le-leb (4 * min n 16) 65536 (omega arith) in
     record {
       first = rw w refl;
       ask = rw (w, four, said, count, some, inside, few) refl;
@@ -289,8 +279,8 @@ load_rules n = record { n = n; profile = One; item_limit = MAX_ITEMS }
 
 -- an item is added if the batch isn't full
 signed_turn : (n : ℕ) (leaves : Bool) (u v : ℕ) → u < n → v < n → turn_of (load_rules n) false (Item (if leaves then Delete u v else Insert u v)) ≡ Add (if leaves then Delete u v else Insert u v)
-signed_turn n true u v h k = rw (below u n h, below v n k) refl
-signed_turn n false u v h k = rw (below u n h, below v n k) refl
+signed_turn n true u v h k = rw (lt-ltb u n h, lt-ltb v n k) refl
+signed_turn n false u v h k = rw (lt-ltb u n h, lt-ltb v n k) refl
 
 not_full : (k : ℕ) → k < MAX_ITEMS → nat_le MAX_ITEMS k ≡ false
 not_full k h = grind (arith, nat_tests, h)

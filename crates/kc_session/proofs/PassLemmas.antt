@@ -3,13 +3,14 @@ use Rattle.std.proofs.Common.{ℕ, suc, zero, ◌≡◌, ◌+◌, ◌<◌, List,
 use mathlib.Core.List.{IsPrefix}
 use mathlib.Core.Logic.{dite}
 use native.Mathlib.Decide.{ℕ_discrete}
-use Rattle.std.proofs.lemmas.List.{get_or_append_left, nil_from_length}
+use Rattle.std.proofs.lemmas.List.{get_or_append_left, nil_from_length, length-set}
+use Rattle.std.proofs.lemmas.Grind.{same_number_lists}
+use Rattle.std.proofs.Math.Seq.{get_or-append_seam}
 use Rattle.kc_history.specs.declared.entries.Entry.{Entry}
 use Rattle.kc_levels.specs.declared.moves.Move.{Move}
 use Rattle.kc_history.specs.Points.{levels_at, levels_after, with_moves}
 use Rattle.kc_store.specs.Seats.{PassShape}
 use Rattle.kc_store.specs.States.{last_level}
-use Rattle.kc_session.proofs.Lists.{at_end}
 
 -- a level that was read at some point between the end of the history and the end of what the pass has seen
 pub record WasRead (n : ℕ) (history seen : List Entry) (v l : ℕ) : Type 0 where
@@ -37,7 +38,7 @@ reading_more n history first v l pass next levels more h same p is e = subst (λ
   each = λ k d lt. dite (ℕ_discrete k v)
       (λ s.
       let t : k ≡ length levels = s ∙ sym h.long in
-      let here : get_or (levels ++ l ∷ []) k d ≡ l = ap (λ j. get_or (levels ++ l ∷ []) j d) t ∙ at_end levels l [] d in
+      let here : get_or (levels ++ l ∷ []) k d ≡ l = ap (λ j. get_or (levels ++ l ∷ []) j d) t ∙ get_or-append_seam levels l [] d in
       record { point = next.seen; after = prefix_on history pass.seen next.seen h.later p; within = ([], append-nil next.seen); level_is = ap (λ j. last_level n next.seen j) s ∙ (is ∙ sym here) })
       (λ o.
       let before : k < v = omega (arith, lt, o) in
@@ -53,20 +54,6 @@ both_begin a b p q =
     let z = length-append a p.0 in
     let w = length-append b q.0 in
     sym (append-nil a) ∙ (ap (λ (es : List Entry). a ++ es) (sym (nil_from_length p.0 (omega (arith, x, y, z, w)))) ∙ p.1)
-
--- lists of one length with the same items are the same
-same_lists : (xs ys : List ℕ) → length xs ≡ length ys → ((k : ℕ) → k < length ys → get_or xs k 0 ≡ get_or ys k 0) → xs ≡ ys
-same_lists [] [] e h = refl
-same_lists [] (y ∷ ys) e h = absurd (omega (arith, e))
-same_lists (x ∷ xs) [] e h = absurd (omega (arith, e))
-same_lists (x ∷ xs) (y ∷ ys) e h =
-    let head : x ≡ y = h 0 (omega arith) in
-    ap (λ z. z ∷ xs) head ∙ ap (λ zs. y ∷ zs) (same_lists xs ys (omega (arith, e)) (λ k lt. h (suc k) (omega (arith, lt))))
-
-length-set : (xs : List ℕ) (i l : ℕ) → length (set xs i l) ≡ length xs
-length-set [] i l = refl
-length-set (x ∷ xs) zero l = refl
-length-set (x ∷ xs) (suc i) l = ap suc (length-set xs i l)
 
 length-moves : (x : List ℕ) (ms : List Move) → length (with_moves x ms) ≡ length x
 length-moves x [] = refl
@@ -87,8 +74,8 @@ pub reading_all : (n : ℕ) (history : List Entry) (first : PassShape) (v : ℕ)
 reading_all n history first v pass levels h all taken =
     let long = length-levels_at n history (length history) in
     let same : length levels ≡ length (levels_at n history (length history)) = h.long ∙ (all ∙ sym long) in
-    same_lists levels (levels_at n history (length history)) same
+    same_number_lists levels (levels_at n history (length history)) same
     (λ k lt.
-    let r = h.each k 0 (omega (arith, lt, all, long)) in
+    let r = h.each k 0 (omega (arith, lt, same, all, long)) in
     let there : history ≡ r.point = both_begin history r.point r.after (prefix_on r.point pass.seen history r.within taken) in
     sym (ap (λ (es : List Entry). last_level n es k) there ∙ r.level_is))

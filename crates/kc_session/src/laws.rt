@@ -14,6 +14,7 @@ pub fn load_of_three_items()
 
 /// The text of a load is an input with a header of two asks and the batches of the drawn items. The grammar refuses
 /// neither the header nor a batch, and the text is shorter than the limit of an input.
+#[tactic(auto, using(crate::proofs::LoadReads::loads_are_read))]
 pub fn loads_are_read()
     ensures { LoadsAreRead }
 {}

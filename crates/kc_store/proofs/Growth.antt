@@ -1,7 +1,9 @@
 -- How the history grows: whole phases, and then the open one.
-use Rattle.std.proofs.Common.{◌≡◌, ℕ, zero, suc, ◌+◌, List, [], ◌∷◌, ◌++◌, take, length, Some, None, sym, refl, ap, ◌∙◌, subst, inr, ⊎_elim, arith, append_assoc, append-nil}
+use Rattle.std.proofs.Common.{◌≡◌, ℕ, zero, suc, ◌+◌, List, [], ◌∷◌, ◌++◌, take, length, Some, None, sym, ap, ◌∙◌, subst, inr, ⊎_elim, arith, append_assoc, append-nil}
 use Rattle.std.specs.List.{slice_get}
 use Rattle.std.proofs.lemmas.Bool.Decides.{nat_tests}
+use Rattle.std.proofs.Math.Seq.{take-length}
+use Rattle.std.proofs.lemmas.List.{length_push}
 use Rattle.kc_history.specs.declared.entries.Entry.{Entry}
 use Rattle.kc_history.specs.private.Ends.{begins_phase, phases_in}
 use Rattle.kc_groups.specs.declared.plans.PhasePlan.{PhasePlan}
@@ -32,14 +34,10 @@ entries_snoc : (plans : List PhasePlan) (plan : PhasePlan) → entries_in (plans
 entries_snoc [] plan = append-nil (entries_of plan)
 entries_snoc (x ∷ xs) plan = ap (λ (zs : List Entry). entries_of x ++ zs) (entries_snoc xs plan) ∙ sym (append_assoc (entries_of x) (entries_in xs) (entries_of plan))
 
-take_whole : (es : List Entry) → take (length es) es ≡ es
-take_whole [] = refl
-take_whole (x ∷ xs) = ap (λ (zs : List Entry). x ∷ zs) (take_whole xs)
-
 take_all : (plan : PhasePlan) (count : ℕ) → count ≡ length plan.groups → take (count + 1) (entries_of plan) ≡ entries_of plan
 take_all plan count all =
     let s : suc (length plan.groups) ≡ count + 1 = omega (arith, all) in
-    subst (λ (j : ℕ). take j (entries_of plan) ≡ entries_of plan) s (take_whole (entries_of plan))
+    subst (λ (j : ℕ). take j (entries_of plan) ≡ entries_of plan) s (take-length (entries_of plan))
 
 -- the last plan's phase
 last_phase : (n before : ℕ) (plans : List PhasePlan) (plan : PhasePlan) → AllFormed n before (plans ++ plan ∷ []) → plan.quiet.phase ≡ before + length plans + 1
@@ -59,17 +57,13 @@ grown_begun n before phase log old new count all now formed h = ⊎_elim
     inr ([], formed_snoc n before (phase + 1) [] new tt (omega (arith, first, now)) formed, ap (λ (zs : List Entry). zs ++ new.quiet ∷ []) t.0))
     (λ (t : (whole : List PhasePlan) × AllFormed n before (whole ++ old ∷ []) × (log ≡ entries_in whole ++ take (count + 1) (entries_of old))).
     let last = last_phase n before t.0 old t.1 in
-    let more = length_snoc t.0 old in
+    let more = length_push t.0 old in
     inr (
       t.0 ++ old ∷ [],
       formed_snoc n before (phase + 1) (t.0 ++ old ∷ []) new t.1 (omega (arith, last, now, more)) formed,
       ap (λ (zs : List Entry). zs ++ new.quiet ∷ []) (t.2 ∙ (ap (λ (zs : List Entry). entries_in t.0 ++ zs) (take_all old count all) ∙ sym (entries_snoc t.0 old))),
     ))
     h
-  where
-    length_snoc : (plans : List PhasePlan) (plan : PhasePlan) → length (plans ++ plan ∷ []) ≡ length plans + 1
-    length_snoc [] plan = refl
-    length_snoc (x ∷ xs) plan = let q = length_snoc xs plan in omega (arith, q)
 
 -- the next group is published
 pub grown_published : (n before : ℕ) (log : List Entry) (plan : PhasePlan) (count : ℕ) (e : Entry) → slice_get plan.groups count ≡ Some e → IsGrown n before log plan count → IsGrown n before (log ++ e ∷ []) plan (count + 1)

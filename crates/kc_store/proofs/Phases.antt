@@ -2,6 +2,7 @@
 use Rattle.std.proofs.Common.{◌≡◌, ◌≢◌, ℕ, ◌+◌, ◌*◌, ◌<◌, ◌≤◌, List, [], ◌∷◌, ◌++◌, drop, length, Some, None, Contains, set, get_or, sym, refl, ap, ◌∙◌, subst, ⊎_elim, arith, get_or-set_other}
 use Rattle.std.specs.List.{slice_get}
 use Rattle.std.proofs.lemmas.Option.{slice_get_within}
+use Rattle.std.proofs.Math.Seq.{drop-length}
 use mathlib.Core.Logic.{dite}
 use native.Mathlib.Decide.{ℕ_discrete}
 use Rattle.atomic_table.specs.Table.{step, keeps, Allows}
@@ -23,7 +24,7 @@ use Rattle.kc_store.specs.private.Steps.{publishes, begins}
 use Rattle.kc_store.proofs.Points.{before_more, waits_found, group_here, group_past, group_label, label_found, apart_found, level_moved, level_stays}
 use Rattle.kc_store.proofs.Publishing.{mark, publish, publish_look, publish_below, maybe_cases}
 use Rattle.kc_store.proofs.Beginning.{begin, begin_look, begin_below}
-use Rattle.kc_store.proofs.Places.{move_found, drop_cons, drop_all, waits_all, apart_formed}
+use Rattle.kc_store.proofs.Places.{move_found, drop_cons, waits_all, apart_formed}
 use Rattle.kc_store.proofs.Forms.{CanBegin}
 use Rattle.kc_store.proofs.Growth.{phases_begun, phases_stay, grown_begun, grown_published}
 use Rattle.kc_store.proofs.Seats.{all_longer, writer_step}
@@ -211,7 +212,7 @@ begins_allowed n slots id d plan may s r homes at bound = (
 )
   where
     none : rest_of d ≡ []
-    none = ap (λ (k : ℕ). drop k d.plan.groups) may.all_published ∙ drop_all d.plan.groups
+    none = ap (λ (k : ℕ). drop k d.plan.groups) may.all_published ∙ drop-length d.plan.groups
 
     no_loan : (l : Loan) → Contains d.loans l → ⊥
     no_loan l on = let few : length d.loans ≡ 0 = ap (length {A = Loan}) may.none_out in let lt = on.1 in omega (arith, few, lt)

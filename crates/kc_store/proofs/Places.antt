@@ -1,7 +1,8 @@
 -- Moves and groups by their places.
-use Rattle.std.proofs.Common.{◌≡◌, ℕ, zero, suc, ◌+◌, ◌-◌, ◌<◌, ◌≤◌, Bool, true, false, List, [], ◌∷◌, drop, length, Option, Some, None, if◌then◌else◌, nat_eq, sym, refl, ap, ◌∙◌, subst, ⊎_elim, arith}
+use Rattle.std.proofs.Common.{◌≡◌, ℕ, zero, suc, ◌+◌, ◌-◌, ◌<◌, ◌≤◌, Bool, true, false, List, [], ◌∷◌, drop, Option, Some, None, if◌then◌else◌, nat_eq, sym, refl, ap, ◌∙◌, subst, ⊎_elim, arith}
 use Rattle.std.proofs.lemmas.Bool.Decides.{nat_tests}
 use Rattle.std.specs.List.{slice_get}
+use Rattle.std.proofs.lemmas.Option.{cond_some}
 use Rattle.kc_history.specs.declared.entries.Entry.{Entry}
 use Rattle.kc_history.specs.Ends.{or_else, last_move}
 use Rattle.kc_history.specs.private.Ends.{is_label}
@@ -11,10 +12,6 @@ use Rattle.kc_store.specs.private.Plans.{group_of}
 use Rattle.kc_store.specs.private.Rule.{Waits, AllWait, AreApart, ApartFrom, AllApart, IsUnmoved}
 use Rattle.kc_store.proofs.Points.{group_here, label_found}
 use Rattle.kc_store.proofs.Publishing.{maybe_cases}
-
-some_if : (b : Bool) (x m : Move) → (if b then Some x else None) ≡ Some m → (b ≡ true) × (x ≡ m)
-some_if true x m is = (refl, cc)
-some_if false x m is = cc
 
 pub move_found : (v : ℕ) (ms : List Move) (m : Move) → last_move v ms ≡ Some m → (i : ℕ) × (slice_get ms i ≡ Some m) × (m.vertex ≡ v)
 move_found v [] m is = cc
@@ -26,7 +23,7 @@ move_found v (x ∷ xs) m is = go (last_move v xs) refl (move_found v xs m)
         let r = on (t ∙ h) in (suc r.0, r.1, r.2)
     go None t on =
         let h : (if nat_eq x.vertex v then Some x else None) ≡ Some m = sym (ap (λ o. or_else o (if nat_eq x.vertex v then Some x else None)) t) ∙ is in
-        let s = some_if (nat_eq x.vertex v) x m h in
+        let s = cond_some (nat_eq x.vertex v) x m h in
         let e : x.vertex ≡ v = grind (arith, nat_tests, s.0) in (0, ap Some s.1, ap (λ (z : Move). z.vertex) (sym s.1) ∙ e)
 
 pub move_in_place : (ms : List Move) (i : ℕ) (m : Move) → AreDistinct ms → slice_get ms i ≡ Some m → last_move m.vertex ms ≡ Some m
@@ -86,10 +83,6 @@ drop_suc (suc k) (x ∷ xs) e is = drop_suc k xs e is
 
 pub drop_cons : (k : ℕ) (es : List Entry) (e : Entry) → slice_get es k ≡ Some e → drop k es ≡ e ∷ drop (k + 1) es
 drop_cons k es e is = let h : suc k ≡ k + 1 = omega arith in drop_suc k es e is ∙ ap (λ (z : ℕ). e ∷ drop z es) h
-
-pub drop_all : (es : List Entry) → drop (length es) es ≡ []
-drop_all [] = refl
-drop_all (x ∷ xs) = drop_all xs
 
 pub apart_drop : (k : ℕ) (es : List Entry) → AllApart es → AllApart (drop k es)
 apart_drop zero es all = all

@@ -5,16 +5,19 @@ pub mod read_back;
 ghost use Rattle.kc_text.specs.Laws.{CutsAtEnds, StopsAtLimit, AreLongestRuns, CutsSevenBytes, CutsWithinThirdLine, MeasuresLines, PartsWords, ReadsNumbers};
 
 /// The lines of an input are its pieces between line feeds.
+#[tactic(auto, using(crate::proofs::Pieces::cuts_at_ends))]
 pub fn lines_are_pieces()
     ensures { CutsAtEnds }
 {}
 
 /// No line lies beyond the input limit.
+#[tactic(auto, using(crate::proofs::Pieces::stops_at_limit))]
 pub fn lines_stop_at_limit()
     ensures { StopsAtLimit }
 {}
 
 /// The words of a line are its longest runs of bytes that aren't blank.
+#[tactic(auto, using(crate::proofs::Runs::are_longest_runs))]
 pub fn words_are_runs()
     ensures { AreLongestRuns }
 {}

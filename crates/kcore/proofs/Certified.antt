@@ -4,7 +4,7 @@ use Rattle.std.proofs.lemmas.Bool.Decides.{nat_tests}
 use Rattle.kc_text.specs.Lines.{lines}
 use Rattle.kc_text.specs.Printing.{printed}
 use Rattle.kc_text.specs.Kept.{kept}
-use Rattle.kc_graph.specs.declared.limits.TheConstants.{MAX_VERTICES, MAX_ITEMS}
+use Rattle.kc_graph.specs.declared.limits.TheConstants.{MAX_VERTICES, MAX_ITEMS, MAX_EDGES}
 use Rattle.kc_batch.specs.Headers.{HeaderText, Accepted, Refused, header_of}
 use Rattle.kc_batch.specs.BatchInputs.{behind_header}
 use Rattle.kc_batch.specs.Tokens.{tokens}
@@ -14,7 +14,6 @@ use Rattle.kc_cert.specs.Laws.{document_in}
 use Rattle.kc_cert.specs.Texts.{IsCertificate, certificate_text}
 use Rattle.kc_cert.proofs.lemmas.Certificates.{certificate_is_read_back, verdict_is_certified}
 use Rattle.kc_engine.specs.States.{State, IsSound}
-use Rattle.kc_graph.specs.declared.limits.TheConstants.{MAX_EDGES}
 use Rattle.kc_session.specs.States.{start, last_state}
 use Rattle.kcore.specs.declared.limits.TheConstants.{LINE_LIMIT, INPUT_LIMIT}
 use Rattle.kcore.specs.CertificateLaw.{CertifiesAfter, FinalIsCertified}

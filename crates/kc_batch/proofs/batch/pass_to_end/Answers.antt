@@ -1,8 +1,9 @@
 use Rattle.std.proofs.Common.{arith, refl, ◌∙◌, inl, inr}
+use Rattle.std.proofs.lemmas.Iterator.Adapters.{option_map_id}
 use Rattle.kc_batch.specs.Batches.{after_end}
 use Rattle.kc_batch.specs.private.Tokens.{onto_token}
 use Rattle.kc_batch.proofs.Saying.{takes_le}
-use Rattle.kc_batch.proofs.Stepping.{step_on, step_last, map_same, passed_by, after_on, after_at_end, after_at_last}
+use Rattle.kc_batch.proofs.Stepping.{step_on, step_last, passed_by, after_on, after_at_end, after_at_last}
 use Rattle.kc_batch.proofs.batch.pass_to_end.Goals as goal
 
 pub returns-in-BatchEnd-clause-passed : goal.returns-in-BatchEnd-clause-passed
@@ -10,10 +11,10 @@ returns-in-BatchEnd-clause-passed g c =
     let t = c.in_ok-token.token in
     let s = c.in_ok-token.ensures in
     elim c.in-BatchEnd.is [
-      | inl e ↦ c.loop-token.invariant.same ∙ step_on after_end (λ x. x) (onto_token t) _ _ s.token (after_at_end t e) ∙ map_same _
+      | inl e ↦ c.loop-token.invariant.same ∙ step_on after_end (λ x. x) (onto_token t) _ _ s.token (after_at_end t e) ∙ option_map_id _
       | inr o ↦ elim o [
-        | inl e ↦ c.loop-token.invariant.same ∙ step_last after_end (λ x. x) t _ _ s.token (s.last (rw e tt)) (λ rest. rw e refl) (after_at_last t (inl e)) ∙ map_same _
-        | inr e ↦ c.loop-token.invariant.same ∙ step_last after_end (λ x. x) t _ _ s.token (s.last (rw e tt)) (λ rest. rw e refl) (after_at_last t (inr e)) ∙ map_same _
+        | inl e ↦ c.loop-token.invariant.same ∙ step_last after_end (λ x. x) t _ _ s.token (s.last (rw e tt)) (λ rest. rw e refl) (after_at_last t (inl e)) ∙ option_map_id _
+        | inr e ↦ c.loop-token.invariant.same ∙ step_last after_end (λ x. x) t _ _ s.token (s.last (rw e tt)) (λ rest. rw e refl) (after_at_last t (inr e)) ∙ option_map_id _
       ]
     ]
 

@@ -1,7 +1,8 @@
 use Rattle.std.proofs.Common.{◌+◌, List, drop, refl, sym, ap, subst, ◌∙◌, arith}
+use Rattle.std.proofs.lemmas.List.{drop_all}
 use Rattle.kc_groups.specs.declared.plans.PhasePlan.{PhasePlan}
 use Rattle.kc_engine.specs.private.Shows.{ShowShape}
-use Rattle.kc_engine.proofs.PhaseSteps.{IsOnTheWay, way_begins, way_more, way_ends, may_begin, drop_none, drop_all, way_at}
+use Rattle.kc_engine.proofs.PhaseSteps.{IsOnTheWay, way_begins, way_more, way_ends, may_begin, drop_none, way_at}
 use Rattle.kc_engine.proofs.showing.phases.show_phases.Goals as goal
 
 pub loop-i-init : goal.loop-i-init
@@ -33,4 +34,4 @@ loop-i-preserved g c = (
 pub returns-clause-shown : goal.returns-clause-shown
 returns-clause-shown g c =
     let end = c.loop-i-test.false in
-    rw (← c.show.view_is) (way_ends c.args.show.now.n c.show.inside.phases.now (drop c.loop-i.i c.show.inside.phases.now) c.args.writer.now.state c.loop-i.writer.state (drop_all c.show.inside.phases.now c.loop-i.i (omega (arith, end))) c.loop-i.invariant.2)
+    rw (← c.show.view_is) (way_ends c.args.show.now.n c.show.inside.phases.now (drop c.loop-i.i c.show.inside.phases.now) c.args.writer.now.state c.loop-i.writer.state (drop_all c.loop-i.i c.show.inside.phases.now (omega (arith, end))) c.loop-i.invariant.2)

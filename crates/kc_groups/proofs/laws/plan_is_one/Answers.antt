@@ -1,5 +1,0 @@
-use Rattle.kc_groups.proofs.PlanLaw as law
-use Rattle.kc_groups.proofs.laws.plan_is_one.Goals as goal
-
-pub returns : goal.returns
-returns c = law.plan_is_one
