@@ -2,13 +2,13 @@
 ghost use Rattle.std.specs.Prelude.{◌≡◌, IfOk};
 ghost use Rattle.kc_text.specs.Kept.{kept_left};
 ghost use Rattle.kc_audit.specs.Runs.{IsAuditable};
-ghost use Rattle.kc_audit.specs.Documents.{empty_run, first_place, read_from, document_of};
+ghost use Rattle.kc_audit.specs.Documents.{first_place, read_from, document_of};
 ghost use Rattle.kc_audit.specs.Reads.{Answers, AuditCause};
 ghost use Rattle.kc_audit.specs.declared.stage.Stage.TheVariants.{Batches};
 
+use crate::RunText;
 use crate::form::{FormLine, form_of};
 use crate::stage::{Draft, PhasesLeft, Place, Stage, Turn, head_of, turn_at, vertices_of};
-use crate::{GroupLines, Readers, RunText};
 use kc_text::{LineFault, LineReader, Reason, Source, give_back, next_kept, text_of};
 use std::alloc::{AllocError, Global};
 use thiserror::Error;
@@ -51,26 +51,19 @@ impl From<AllocError> for AuditFault {
     }
 }
 
-// Reads the lines after `vertices N`.
+// Reads the lines after `vertices N` into a draft, which has none of them yet.
 fn read_lines<S: Source>(
-    alloc: Global,
     reader: &mut LineReader,
     src: &mut S,
-    n: u32,
+    draft: Draft,
 ) -> Result<RunText, AuditFault>
-    ensures document { Answers (read_from (empty_run n) (Batches first_place)) (kept_left reader.old (S.left src.old)) result }
+    requires { IsAuditable draft.run }
+    ensures document { Answers (read_from draft.run (Batches first_place)) (kept_left reader.old (S.left src.old)) result }
     ensures sound { IfOk result IsAuditable }
     ensures cause { AuditCause (S.faults src.old) (S.faults src.new) result }
 {
-    let mut draft = Draft {
-        alloc,
-        run: RunText {
-            vertices: n,
-            groups: GroupLines::new(alloc),
-            readers: Readers::new(alloc),
-        },
-        members: Vec::new(alloc),
-    };
+    let mut draft = draft;
+    let alloc = draft.alloc;
     let mut stage = Stage::Batches(Place {
         batch: 0,
         phase: 0,
@@ -132,7 +125,7 @@ pub fn read_run<S: Source>(
     let second = next_kept(alloc, reader, src)?;
     let line = second.number;
     match vertices_of(form_of(&second)) {
-        Ok(n) => read_lines(alloc, reader, src, n),
+        Ok(n) => read_lines(reader, src, Draft::new(alloc, n)),
         Err(reason) => Err(AuditFault::Refused { line, reason }),
     }
 }

@@ -7,14 +7,14 @@ ghost use Rattle.kc_text.specs.Words.{words};
 ghost use Rattle.kc_audit.specs.Runs.{IsAuditable};
 ghost use Rattle.kc_audit.specs.Words.{pairs_of};
 ghost use Rattle.kc_audit.specs.private.Kinds.{kind_told, IsWithin};
-ghost use Rattle.kc_audit.specs.Documents.{misfit, head_of, vertices_of, is_next, left_after, batch_step, phase_step, rises_from, is_group, members_step, replies_step, reader_step, vertex_step, readers_step, batches_step, groups_step, vertices_step, closed_step, step_of};
+ghost use Rattle.kc_audit.specs.Documents.{empty_run, misfit, head_of, vertices_of, is_next, left_after, batch_step, phase_step, rises_from, is_group, members_step, replies_step, reader_step, vertex_step, readers_step, batches_step, groups_step, vertices_step, closed_step, step_of};
 ghost use Rattle.kc_audit.specs.private.Documents.{step_told};
 ghost use Rattle.kc_audit.specs.declared.run_text.RunText.{RunText};
 
-use crate::RunText;
 use crate::form::{Form, FormLine};
 use crate::run_text::{MAX_ITEMS, are_below};
 use crate::words::read_pairs;
+use crate::{GroupLines, Readers, RunText};
 use kc_history::{MAX_VERTICES, Replies, Reply};
 use kc_text::Reason;
 use std::alloc::{AllocError, Global};
@@ -68,6 +68,23 @@ pub struct Draft {
     pub run: RunText,
     /// The members of a group line pass through here.
     pub members: Vec<Reply>,
+}
+
+impl Draft {
+    /// Makes the draft of a run of n vertices without groups and readers. Takes no memory.
+    pub fn new(alloc: Global, n: u32) -> Draft
+        ensures { result.run ≡ empty_run n }
+    {
+        Draft {
+            alloc,
+            run: RunText {
+                vertices: n,
+                groups: GroupLines::new(alloc),
+                readers: Readers::new(alloc),
+            },
+            members: Vec::new(alloc),
+        }
+    }
 }
 
 /// What a line does.

@@ -1,6 +1,6 @@
 use Rattle.std.proofs.Common.{◌∙◌}
 use Rattle.kc_audit.specs.declared.stage.Stage.TheVariants.{Batches}
-use Rattle.kc_audit.specs.Documents.{Accepted, Refused, empty_run, first_place, read_from}
+use Rattle.kc_audit.specs.Documents.{Accepted, Refused, first_place, read_from}
 use Rattle.kc_audit.proofs.Stepping.{fits_text, goes_on, stops, ends, step_on, accepted_here, refused_here}
 use Rattle.kc_audit.proofs.read.read_lines.Goals as goal
 
@@ -9,7 +9,7 @@ returns-in-End-clause-document g c =
     let line = c.in_ok-line.line in
     let run = c.turn_at.new.draft.run in
     let step = rw (c.text_of-text.ensures, c.form_of-form.ensures.kind, c.in-End.is) at c.in_ok-next.ensures.step in
-    accepted_here (read_from (empty_run c.args.n) (Batches first_place)) run _ _
+    accepted_here (read_from c.args.draft.run (Batches first_place)) run _ _
     (c.loop-draft.invariant.same ∙ step_on (read_from c.loop-draft.draft.run c.loop-draft.stage) (λ rest. Accepted run) line _ _ c.in_ok-line.ensures.line (ends c.loop-draft.draft.run c.loop-draft.stage line run step))
 
 pub returns-in-Stop-clause-document : goal.returns-in-Stop-clause-document
@@ -17,7 +17,7 @@ returns-in-Stop-clause-document g c =
     let line = c.in_ok-line.line in
     let reason = c.in-Stop.reason in
     let step = rw (c.text_of-text.ensures, c.form_of-form.ensures.kind, c.in-Stop.is) at c.in_ok-next.ensures.step in
-    refused_here (read_from (empty_run c.args.n) (Batches first_place)) line reason _ _
+    refused_here (read_from c.args.draft.run (Batches first_place)) line reason _ _
     (c.loop-draft.invariant.same ∙ step_on (read_from c.loop-draft.draft.run c.loop-draft.stage) (λ rest. Refused line.number reason) line _ _ c.in_ok-line.ensures.line (stops c.loop-draft.draft.run c.loop-draft.stage line reason step))
 
 pub loop-draft-preserved : goal.loop-draft-preserved

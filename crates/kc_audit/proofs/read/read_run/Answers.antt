@@ -21,7 +21,7 @@ returns-in-Ok-clause-document g c =
     let found = rw c.form_of-2.ensures.kind at (c.in-Ok.ensures (text_of second.body)) in
     let told = step_on document_of after_head first _ _ c.in_ok-first.ensures.line (head_there first _ (sym head))
     ∙ step_on after_head (read_from (empty_run n) (Batches first_place)) second _ _ c.in_ok-second.ensures.line (vertices_there second n (sym found)) in
-    answer_before document_of (read_from (empty_run n) (Batches first_place)) _ _ c.read_lines.result told c.read_lines.ensures.document
+    answer_before document_of (read_from (empty_run n) (Batches first_place)) _ _ c.read_lines.result told (rw c.new.ensures at c.read_lines.ensures.document)
 
 pub returns-clause-document : goal.returns-clause-document
 returns-clause-document g c =
