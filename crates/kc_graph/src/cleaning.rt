@@ -77,6 +77,7 @@ impl Cleaned {
     }
 
     /// Takes in the key of an item that decides.
+    #[inline(always)]
     pub fn decide(&mut self, graph: &Graph, key: &Key) -> Result<(), AllocError>
         requires ordered { key.now.a < key.now.b }
         requires below { key.now.b < graph.now.vertices }
