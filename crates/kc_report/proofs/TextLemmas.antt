@@ -57,15 +57,6 @@ members_more f xs i d old buffer more h e t =
     let s = split_at f xs i d h in
     rw (add-one, s.here) (t ∙ ap (λ (b : List ℕ). b ++ f (get_or xs i d)) e ∙ append_assoc old (flat_map f (take i xs)) (f (get_or xs i d)))
 
-member_filled : (m : Move) (old a b : List ℕ) → a ≡ (old ++ codes " ") ++ decimal m.vertex → b ≡ (a ++ codes ":") ++ decimal m.new → b ≡ old ++ 32 ∷ member_word m
-member_filled m old a b ea eb = rw (eb, ea) (simp append_assoc)
-
--- one more member was put together, in two parts
-pub member_at : (xs : List Move) (i : ℕ) (d m : Move) (old buffer a b : List ℕ) → i < length xs → m ≡ get_or xs i d → buffer ≡ old ++ flat_map (λ (k : Move). 32 ∷ member_word k) (take i xs)
-    → a ≡ (buffer ++ codes " ") ++ decimal m.vertex → b ≡ (a ++ codes ":") ++ decimal m.new → b ≡ old ++ flat_map (λ (k : Move). 32 ∷ member_word k) (take (i + 1) xs)
-member_at xs i d m old buffer a b h is e ea eb =
-    members_more (λ (k : Move). 32 ∷ member_word k) xs i d old buffer b h e (member_filled m buffer a b ea eb ∙ ap (λ (k : Move). buffer ++ 32 ∷ member_word k) is)
-
 -- words that are joined, each but the first with its blank
 pub joined : {A : Type 0} (word : List ℕ) (f : A → List ℕ) (xs : List A) → join_with_byte 32 (word ∷ map f xs) ≡ word ++ flat_map (λ x. 32 ∷ f x) xs
 joined word f [] = sym (append-nil word)
@@ -74,7 +65,7 @@ joined word f (x ∷ xs) = ap (λ (t : List ℕ). word ++ 32 ∷ t) (joined (f x
 phase_regrouped : (p b r q n s e : List ℕ) → ((((p ++ s) ++ b) ++ ((s ++ r) ++ (s ++ (q ++ s)))) ++ n) ++ e ≡ (p ++ (s ++ (b ++ (s ++ (r ++ (s ++ (q ++ (s ++ n)))))))) ++ e
 phase_regrouped p b r q n s e = simp append_assoc
 
-group_regrouped : (p b l m s e : List ℕ) → (((((p ++ s) ++ b) ++ s) ++ l) ++ m) ++ e ≡ (p ++ (s ++ (b ++ (s ++ (l ++ m))))) ++ e
+group_regrouped : (p b l m s e : List ℕ) → ((p ++ (s ++ (b ++ (s ++ l)))) ++ m) ++ e ≡ (p ++ (s ++ (b ++ (s ++ (l ++ m))))) ++ e
 group_regrouped p b l m s e = simp append_assoc
 
 phase_parts : (phase quiet : ℕ) (direction old a word b : List ℕ) → old ≡ [] → a ≡ (old ++ codes "phase ") ++ decimal phase → word ≡ (codes " " ++ direction) ++ codes " quiet " → b ≡ (a ++ word) ++ decimal quiet
@@ -87,11 +78,11 @@ phase_filled plan quiet old a word b z eq ea ew eb =
     phase_parts plan.quiet.phase quiet (direction_word plan.quiet.add) old a word b z ea ew eb
     ∙ ap (λ (n : ℕ). printed_line (codes "phase" ∷ decimal plan.quiet.phase ∷ direction_word plan.quiet.add ∷ codes "quiet" ∷ decimal n ∷ [])) eq
 
-group_parts : (phase label : ℕ) (members words old a b d : List ℕ) → old ≡ [] → a ≡ (old ++ codes "group ") ++ decimal phase → b ≡ (a ++ codes " ") ++ decimal label → d ≡ b ++ members → words ≡ decimal label ++ members
+group_parts : (phase label : ℕ) (members words old a b d : List ℕ) → old ≡ [] → a ≡ old ++ codes "group" → b ≡ a ++ 32 ∷ (decimal phase ++ 32 ∷ decimal label) → d ≡ b ++ members → words ≡ decimal label ++ members
     → d ++ 10 ∷ [] ≡ (codes "group" ++ 32 ∷ (decimal phase ++ 32 ∷ words)) ++ 10 ∷ []
 group_parts phase label members words old a b d z ea eb ed ew = rw (ed, eb, ea, z, ew) (group_regrouped (codes "group") (decimal phase) (decimal label) members (32 ∷ []) (10 ∷ []))
 
-pub group_filled : (group : Entry) (label : ℕ) (old a b d : List ℕ) → old ≡ [] → group.label ≡ Some label → a ≡ (old ++ codes "group ") ++ decimal group.phase → b ≡ (a ++ codes " ") ++ decimal label
+pub group_filled : (group : Entry) (label : ℕ) (old a b d : List ℕ) → old ≡ [] → group.label ≡ Some label → a ≡ old ++ codes "group" → b ≡ a ++ 32 ∷ (decimal group.phase ++ 32 ∷ decimal label)
     → d ≡ b ++ flat_map (λ (m : Move). 32 ∷ member_word m) group.moves → d ++ 10 ∷ [] ≡ group_line group
 group_filled group label old a b d z el ea eb ed =
     let words : join_with_byte 32 (label_word group.label ∷ map member_word group.moves) ≡ decimal label ++ flat_map (λ (m : Move). 32 ∷ member_word m) group.moves =

@@ -17,6 +17,7 @@ mod batches;
 mod exact;
 mod head;
 mod level_words;
+mod pairs;
 mod phases;
 mod readers;
 mod refusals;

@@ -6,6 +6,7 @@ ghost use Rattle.kc_groups.specs.WellFormed.{IsWellFormed};
 ghost use Rattle.kc_report.specs.Buffer.{IsCleared};
 ghost use Rattle.kc_report.specs.Lines.{direction_word, member_word, phase_line, group_line, phase_text};
 
+use crate::pairs::put_pair;
 use kc_groups::PhasePlan;
 use kc_history::{Entry, Move};
 use kc_text::{LineBuf, SendFault, Sink};
@@ -37,8 +38,7 @@ fn fill_members(buf: &mut LineBuf, moves: &[Move]) -> Result<(), AllocError>
     ensures { OnOk result (buf.new ≡ buf.old ++ flat_map (λ m. 32 ∷ member_word m) moves.now) }
 {
     for m in moves {
-        buf.put_named(b" ", m.vertex)?;
-        buf.put_named(b":", u32::from(m.new))?;
+        put_pair(buf, m.vertex, b':', u32::from(m.new))?;
     }
     Ok(())
 }
@@ -48,8 +48,8 @@ fn fill_group(buf: &mut LineBuf, group: &Entry) -> Result<(), AllocError>
     ensures { OnOk result (buf.new ++ 10 ∷ [] ≡ group_line group.now) }
 {
     buf.clear();
-    buf.put_named(b"group ", group.phase)?;
-    buf.put_named(b" ", group.label.unwrap())?;
+    buf.put(b"group")?;
+    put_pair(buf, group.phase, b' ', group.label.unwrap())?;
     fill_members(buf, group.moves.as_slice())
 }
 

@@ -5,6 +5,7 @@ ghost use Rattle.kc_text.specs.Writing.{Appends, WriteCause};
 ghost use Rattle.kc_report.specs.Buffer.{IsCleared};
 ghost use Rattle.kc_report.specs.Lines.{reply_word, reader_line};
 
+use crate::pairs::put_pair;
 use kc_history::Reply;
 use kc_text::{LineBuf, SendFault, Sink};
 use std::alloc::{AllocError, Global};
@@ -14,8 +15,7 @@ fn fill_replies(buf: &mut LineBuf, replies: &[Reply]) -> Result<(), AllocError>
     ensures { OnOk result (buf.new ≡ buf.old ++ flat_map (λ r. 32 ∷ reply_word r) replies.now) }
 {
     for r in replies {
-        buf.put_named(b" ", r.vertex)?;
-        buf.put_named(b"=", u32::from(r.level))?;
+        put_pair(buf, r.vertex, b'=', u32::from(r.level))?;
     }
     Ok(())
 }

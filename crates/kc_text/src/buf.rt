@@ -71,6 +71,7 @@ impl LineBuf {
     }
 
     /// Appends bytes. If there is no memory, the line stays as it was.
+    #[inline(always)]
     pub fn put(&mut self, bytes: &[u8]) -> Result<(), AllocError>
         ensures ok { OnOk result (self.new ≡ self.old ++ bytes.now) }
         ensures err { OnErr result (self.new ≡ self.old) }
@@ -78,7 +79,18 @@ impl LineBuf {
         self.bytes.extend_from_slice(bytes)
     }
 
+    // Appends a number of any length. It stands apart, so that shorter numbers are inlined where they are written.
+    #[inline(never)]
+    fn put_long(&mut self, value: u32) -> Result<(), AllocError>
+        ensures ok { OnOk result (self.new ≡ self.old ++ decimal value) }
+        ensures err { OnErr result (self.new ≡ self.old) }
+    {
+        let mut digits = itoa::Buffer::new();
+        self.put(digits.format(value).as_bytes())
+    }
+
     /// Appends a number in decimal digits, without leading zeros. If there is no memory, the line stays as it was.
+    #[inline(always)]
     #[tactic(auto, using(std::proofs::lemmas::Fmt::decimal_digit, std::proofs::lemmas::Fmt::decimal_step))]
     pub fn put_number(&mut self, value: u32) -> Result<(), AllocError>
         ensures ok { OnOk result (self.new ≡ self.old ++ decimal value) }
@@ -91,12 +103,12 @@ impl LineBuf {
         if value < 100 {
             return self.put(&[digit(value / 10), digit(value % 10)]);
         }
-        let mut digits = itoa::Buffer::new();
-        self.put(digits.format(value).as_bytes())
+        self.put_long(value)
     }
 
     /// Appends a name, with its blanks, and a number in decimal digits, the form of many written lines. If there is no
     /// memory, the line may have the name alone, and isn't used again.
+    #[inline(always)]
     pub fn put_named(&mut self, name: &[u8], value: u32) -> Result<(), AllocError>
         ensures { OnOk result (self.new ≡ (self.old ++ name.now) ++ decimal value) }
     {

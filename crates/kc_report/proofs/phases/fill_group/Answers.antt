@@ -5,5 +5,5 @@ use Rattle.kc_report.proofs.phases.fill_group.Goals as goal
 pub returns : goal.returns
 returns c =
     on_ok_weaker c.fill_members.result
-    (λ members. group_filled c.args.group.now c.unwrap.result _ _ _ _ c.clear.ensures c.unwrap.ensures c.in_ok-put_named.ensures c.in_ok-put_named-2.ensures (rw c.as_slice.ensures at members))
+    (λ members. group_filled c.args.group.now c.unwrap.result _ _ _ _ c.clear.ensures c.unwrap.ensures c.in_ok-put.ensures.ok c.in_ok-put_pair.ensures (rw c.as_slice.ensures at members))
     c.fill_members.ensures
