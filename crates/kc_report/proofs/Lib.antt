@@ -1,5 +1,6 @@
 pub mod lemmas
 mod LineLemmas
+mod MemberLemmas
 mod ReaderLemmas
 mod TextLemmas
 mod VertexLemmas

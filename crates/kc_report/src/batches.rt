@@ -5,6 +5,7 @@ ghost use Rattle.kc_report.specs.Buffer.{IsCleared};
 ghost use Rattle.kc_groups.specs.WellFormed.{IsWellFormed};
 ghost use Rattle.kc_report.specs.Lines.{batch_line, batch_text};
 
+use crate::members::{InTurn, Members};
 use crate::phases::write_phase;
 use kc_graph::Cleaned;
 use kc_groups::PhasePlan;
@@ -35,6 +36,40 @@ fn fill_batch(buf: &mut LineBuf, number: u32, cleaned: &Cleaned) -> Result<(), A
     buf.put_named(b" added ", cleaned.added.len() as u32)
 }
 
+/// An accepted batch: its number and its cleaning.
+#[derive(Clone, Copy)]
+pub struct Accepted<'a> {
+    /// The number. Batches are numbered from 1, refused ones included; any number is written.
+    pub number: u32,
+    /// The edges that the batch removes and adds, and the counts of its cleaning.
+    pub cleaned: &'a Cleaned,
+}
+
+/// Writes the lines of an accepted batch as `write_batch` does. `members` composes the members of its groups.
+pub fn write_batch_by<M: Members, K: Sink>(
+    members: &M,
+    buf: &mut LineBuf,
+    sink: &mut K,
+    batch: Accepted<'_>,
+    phases: &[PhasePlan],
+) -> Result<(), SendFault>
+    requires ready { M.may_fill members.now }
+    requires few_removed { length batch.cleaned.now.removed < 2 ^ 32 }
+    requires few_added { length batch.cleaned.now.added < 2 ^ 32 }
+    requires few_quiet { All (λ plan. length plan.quiet.edges < 2 ^ 32) phases.now }
+    requires well_formed { All (λ plan. (n : ℕ) × IsWellFormed n plan) phases.now }
+    ensures text { Appends (K.taken sink.old) (K.taken sink.new) (batch_text batch.entry.number batch.entry.cleaned.now phases.now) result }
+    ensures buffer { IsCleared buf.new result }
+    ensures cause { WriteCause (K.faults sink.old) (K.faults sink.new) result }
+{
+    fill_batch(buf, batch.number, batch.cleaned)?;
+    buf.send_to(sink)?;
+    for plan in phases {
+        write_phase(members, buf, sink, plan)?;
+    }
+    Ok(())
+}
+
 /// Writes the lines of an accepted batch (`batch_text`), one after another.
 ///
 /// - The first line has the batch's number, the counts of its cleaning, and how many edges are removed and added.
@@ -61,10 +96,6 @@ pub fn write_batch<K: Sink>(
     ensures buffer { IsCleared buf.new result }
     ensures cause { WriteCause (K.faults sink.old) (K.faults sink.new) result }
 {
-    fill_batch(buf, number, cleaned)?;
-    buf.send_to(sink)?;
-    for plan in phases {
-        write_phase(buf, sink, plan)?;
-    }
-    Ok(())
+    let batch = Accepted { number, cleaned };
+    write_batch_by(&InTurn, buf, sink, batch, phases)
 }

@@ -1,14 +1,14 @@
 //! The lines of phases and of their groups.
 ghost use Rattle.std.specs.Prelude.{◌≡◌, ℕ, ◌<◌, ◌^◌, [], ◌∷◌, ◌++◌, length, IsSome, OnOk, codes};
-ghost use Rattle.std.specs.List.{flat_map};
 ghost use Rattle.kc_text.specs.Writing.{Appends, WriteCause};
 ghost use Rattle.kc_groups.specs.WellFormed.{IsWellFormed};
 ghost use Rattle.kc_report.specs.Buffer.{IsCleared};
-ghost use Rattle.kc_report.specs.Lines.{direction_word, member_word, phase_line, group_line, phase_text};
+ghost use Rattle.kc_report.specs.Lines.{direction_word, phase_line, group_line, phase_text};
 
+use crate::members::Members;
 use crate::pairs::put_pair;
 use kc_groups::PhasePlan;
-use kc_history::{Entry, Move};
+use kc_history::Entry;
 use kc_text::{LineBuf, SendFault, Sink};
 use std::alloc::AllocError;
 
@@ -33,32 +33,25 @@ fn fill_phase(buf: &mut LineBuf, plan: &PhasePlan) -> Result<(), AllocError>
     buf.put_named(direction(plan.quiet.add), quiet)
 }
 
-// Appends for each move a blank, its vertex and its new level.
-fn fill_members(buf: &mut LineBuf, moves: &[Move]) -> Result<(), AllocError>
-    ensures { OnOk result (buf.new ≡ buf.old ++ flat_map (λ m. 32 ∷ member_word m) moves.now) }
-{
-    for m in moves {
-        put_pair(buf, m.vertex, b':', u32::from(m.new))?;
-    }
-    Ok(())
-}
-
-fn fill_group(buf: &mut LineBuf, group: &Entry) -> Result<(), AllocError>
+fn fill_group<M: Members>(members: &M, buf: &mut LineBuf, group: &Entry) -> Result<(), AllocError>
+    requires ready { M.may_fill members.now }
     requires label { IsSome group.now.label }
     ensures { OnOk result (buf.new ++ 10 ∷ [] ≡ group_line group.now) }
 {
     buf.clear();
     buf.put(b"group")?;
     put_pair(buf, group.phase, b' ', group.label.unwrap())?;
-    fill_members(buf, group.moves.as_slice())
+    members.fill(buf, group.moves.as_slice())
 }
 
 // Writes the line of a phase, and those of its groups.
-pub fn write_phase<K: Sink>(
+pub fn write_phase<M: Members, K: Sink>(
+    members: &M,
     buf: &mut LineBuf,
     sink: &mut K,
     plan: &PhasePlan,
 ) -> Result<(), SendFault>
+    requires ready { M.may_fill members.now }
     requires few_quiet { length plan.now.quiet.edges < 2 ^ 32 }
     requires well_formed { (n : ℕ) × IsWellFormed n plan.now }
     ensures text { Appends (K.taken sink.old) (K.taken sink.new) (phase_text plan.now) result }
@@ -68,7 +61,7 @@ pub fn write_phase<K: Sink>(
     fill_phase(buf, plan)?;
     buf.send_to(sink)?;
     for group in plan.groups.as_slice() {
-        fill_group(buf, group)?;
+        fill_group(members, buf, group)?;
         buf.send_to(sink)?;
     }
     Ok(())

@@ -14,7 +14,7 @@ use crate::fault::SessionFault;
 use crate::report::Reporter;
 use crate::watched::Watched;
 use kc_batch::{Ahead, Next, Rules, await_batch, read_ahead};
-use kc_graph::MAX_ITEMS;
+use kc_graph::{Crew, MAX_ITEMS};
 use kc_rounds::Gate;
 use kc_text::{LineReader, Reason, Sink, Source};
 use std::alloc::AllocError;
@@ -40,14 +40,16 @@ fn run_batch<R: Threads + Sync, K: Sink, G: Gate + Sync>(
     ensures open { OnOk result (IsOpen watched.new.engine) }
     ensures cause { StepCause (K.faults sink.old) (K.faults sink.new) result }
 {
-    let alloc = context.rounds.alloc();
+    let rounds = &context.rounds;
+    let alloc = rounds.alloc();
+    let crew = Crew::new(rounds.runtime(), alloc, rounds.workers());
     let counts = reporter.counts;
     match next {
-        Next::Items(batch) => match apply(&context.rounds, watched, batch.items.as_slice())? {
+        Next::Items(batch) => match apply(rounds, watched, batch.items.as_slice())? {
             Outcome::Accepted(cleaned, plan) => {
                 context.progress.advance(plan.moves);
                 let phases = plan.phases.as_slice();
-                reporter.write_accepted(alloc, sink, &cleaned, phases)?;
+                reporter.write_accepted(&crew, sink, &cleaned, phases)?;
                 let counts = counts.with_accepted(phases);
                 watched.engine.reuse(plan);
                 Ok(counts)

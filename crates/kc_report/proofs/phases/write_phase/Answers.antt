@@ -21,11 +21,11 @@ loop-group-init g c = record {
   faults = c.in_ok-send_to.ensures.cause;
 }
 
-pub fill_group-requires : goal.fill_group-requires
-fill_group-requires g c =
+pub fill_group-requires-clause-label : goal.fill_group-requires-clause-label
+fill_group-requires-clause-label g c =
     let within : c.loop-group.group-index < length c.args.plan.now.groups = omega (arith, c.loop-group-test.true, ap (λ (xs : List Entry). length xs) c.as_slice-group-items.ensures) in
     let labels = has_labels c.requires.well_formed.0 c.args.plan.now c.requires.well_formed.1 in
-    record { label = subst (λ (group : Entry). IsSome group.label) (sym (rw c.as_slice-group-items.ensures at c.group-item.is)) (labels c.loop-group.group-index c.group-item.result within) }
+    subst (λ (group : Entry). IsSome group.label) (sym (rw c.as_slice-group-items.ensures at c.group-item.is)) (labels c.loop-group.group-index c.group-item.result within)
 
 pub returns-in_err-fill_group-clause-text : goal.returns-in_err-fill_group-clause-text
 returns-in_err-fill_group-clause-text g c =

@@ -2,7 +2,7 @@ use Rattle.std.proofs.Common.{◌∷◌}
 use Rattle.kc_levels.specs.declared.moves.Move.{Move}
 use Rattle.kc_report.specs.Lines.{member_word}
 use Rattle.kc_report.proofs.TextLemmas.{members_more}
-use Rattle.kc_report.proofs.phases.fill_members.Goals as goal
+use Rattle.kc_report.proofs.members.fill_members.Goals as goal
 
 pub loop-m-preserved : goal.loop-m-preserved
 loop-m-preserved c =

@@ -1,0 +1,97 @@
+//! The members of a group: the words of its moves, composed by one thread or by several.
+ghost use Rattle.std.specs.Prelude.{◌≡◌, ◌∷◌, ◌++◌, ◌<◌, OnOk, IfOk};
+ghost use Rattle.std.specs.List.{flat_map};
+ghost use Rattle.std.specs.Thread.{IsSync};
+ghost use Rattle.kc_report.specs.Lines.{member_word};
+
+use crate::pairs::put_pair;
+use kc_graph::Crew;
+use kc_history::Move;
+use kc_text::LineBuf;
+use std::alloc::{AllocError, Global};
+use std::thread;
+use std::thread::Threads;
+
+/// What composes the members of a group. The text doesn't depend on it.
+pub trait Members {
+    /// What has to hold before a call.
+    ghost may_fill: { Self → Type 0 };
+
+    /// Appends for each move a blank, its vertex and its new level.
+    fn fill(&self, buf: &mut LineBuf, moves: &[Move]) -> Result<(), AllocError>
+        requires { may_fill self.now }
+        ensures { OnOk result (buf.new ≡ buf.old ++ flat_map (λ m. 32 ∷ member_word m) moves.now) };
+}
+
+fn fill_members(buf: &mut LineBuf, moves: &[Move]) -> Result<(), AllocError>
+    ensures { OnOk result (buf.new ≡ buf.old ++ flat_map (λ m. 32 ∷ member_word m) moves.now) }
+{
+    for m in moves {
+        put_pair(buf, m.vertex, b':', u32::from(m.new))?;
+    }
+    Ok(())
+}
+
+/// Composes the members one after another, in the thread of the caller.
+pub struct InTurn;
+
+impl Members for InTurn {
+    ghost may_fill = { λ _. Unit {0} };
+
+    fn fill(&self, buf: &mut LineBuf, moves: &[Move]) -> Result<(), AllocError> {
+        fill_members(buf, moves)
+    }
+}
+
+// The least number of moves of a piece, whose words cost more than to start and join a thread.
+const LEAST_SHARED: usize = 8_192;
+
+fn members_of(alloc: Global, moves: &[Move]) -> Result<LineBuf, AllocError>
+    ensures { IfOk result (λ text. text ≡ flat_map (λ m. 32 ∷ member_word m) moves.now) }
+{
+    let mut text = LineBuf::new(alloc);
+    fill_members(&mut text, moves)?;
+    Ok(text)
+}
+
+// Appends the members of pieces of this size. Each piece is composed in a thread of its own if one can be made.
+fn fill_pieces<R: Threads + Sync>(
+    crew: &Crew<'_, R>,
+    buf: &mut LineBuf,
+    moves: &[Move],
+    size: usize,
+) -> Result<(), AllocError>
+    requires { 0 < size }
+    ensures { OnOk result (buf.new ≡ buf.old ++ flat_map (λ m. 32 ∷ member_word m) moves.now) }
+{
+    let alloc = crew.alloc;
+    let pieces = thread::map_chunks(
+        crew.rt,
+        alloc,
+        moves,
+        size,
+        &|_start: usize, piece: &[Move]| -> Result<LineBuf, AllocError>
+            ensures { IfOk result (λ text. text ≡ flat_map (λ m. 32 ∷ member_word m) piece.entry.now) }
+        { members_of(alloc, piece) },
+    )?;
+    for piece in &pieces {
+        match piece {
+            Ok(text) => buf.put(text.as_bytes())?,
+            Err(_) => return Err(AllocError),
+        }
+    }
+    Ok(())
+}
+
+/// Long groups are composed in pieces, by the workers of the crew.
+impl<R: Threads + Sync> Members for Crew<'_, R> {
+    ghost may_fill = { λ _. IsSync R.row };
+
+    fn fill(&self, buf: &mut LineBuf, moves: &[Move]) -> Result<(), AllocError> {
+        let size = self.piece_len(moves.len(), LEAST_SHARED);
+        if moves.len() <= size {
+            return fill_members(buf, moves);
+        }
+        fill_pieces(self, buf, moves, size)
+    }
+}
