@@ -41,17 +41,24 @@ def in_turn(kcore, words, data, kind, error, pieces=(0, 0), on=False):
         yield number, ended
 
 
+def refused(trial, data, status, whole, threads, runs):
+    """Notes how runs ended that were refused memory. A run may end well without that of a thread, whose part is done without it, and without
+    a place for the memory of an old plan, which is then given back (`Engine::reuse`): at most once a batch."""
+    without = 0
+    for number, ended in runs:
+        failed = ended.calls["failed"] > 0
+        trial.ended(f"allocation {number}", ended, {NO_MEMORY: "prefix", status: "whole"} if failed else {status: "whole"}, whole)
+        without += failed and ended.status == status and ended.calls["threads"] >= threads
+    batches = data.count(b"batch\n")
+    trial.holds(without <= batches, f"{without} runs of {batches} batches did without memory that was refused")
+
+
 def refused_memory(kcore):
     for name, words, data, status, whole in kcore.cases():
         threads = kcore.program.run(words, data, Failing()).calls["threads"]
         for on in False, True:
             trial = Trial(f"{name}, {'no memory from an allocation on' if on else 'one allocation refused'}")
-            for number, ended in in_turn(kcore, words, data, "allocation", errno.ENOMEM, on=on):
-                wanted = {NO_MEMORY: "prefix"} if ended.calls["failed"] else {status: "whole"}
-                if ended.calls["threads"] < threads:
-                    # It was the memory of a thread, whose part is done without it.
-                    wanted[status] = "whole"
-                trial.ended(f"allocation {number}", ended, wanted, whole)
+            refused(trial, data, status, whole, threads, in_turn(kcore, words, data, "allocation", errno.ENOMEM, on=on))
             yield trial
 
 
@@ -136,12 +143,9 @@ def long_texts(kcore):
             yield trial
         trial = Trial(f"{command.words}, a text of {len(whole)} bytes, one allocation refused")
         calls = kcore.program.run(words, data, Failing()).calls
-        for number in range(1, calls["allocations"], calls["allocations"] // 200 + 1):
-            ended = kcore.program.run(words, data, Failing("allocation", number, error=errno.ENOMEM))
-            wanted = {NO_MEMORY: "prefix"}
-            if not ended.calls["failed"] or ended.calls["threads"] < calls["threads"]:
-                wanted[status] = "whole"
-            trial.ended(f"allocation {number}", ended, wanted, whole)
+        numbers = range(1, calls["allocations"], calls["allocations"] // 200 + 1)
+        runs = ((number, kcore.program.run(words, data, Failing("allocation", number, error=errno.ENOMEM))) for number in numbers)
+        refused(trial, data, status, whole, calls["threads"], runs)
         trial.notes.append(f"of {calls['allocations']}")
         yield trial
 
