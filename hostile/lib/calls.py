@@ -43,14 +43,15 @@ def in_turn(kcore, words, data, kind, error, pieces=(0, 0), on=False):
 
 def refused(trial, data, status, whole, threads, runs):
     """Notes how runs ended that were refused memory. A run may end well without that of a thread, whose part is done without it, and without
-    a place for the memory of an old plan, which is then given back (`Engine::reuse`): at most once a batch."""
+    a place for the memory of an old plan, which is then given back (`Engine::reuse`): at most once a batch. And it does without the block
+    that only tells the allocator to keep memory (`keep_memory`)."""
     without = 0
     for number, ended in runs:
         failed = ended.calls["failed"] > 0
         trial.ended(f"allocation {number}", ended, {NO_MEMORY: "prefix", status: "whole"} if failed else {status: "whole"}, whole)
         without += failed and ended.status == status and ended.calls["threads"] >= threads
     batches = data.count(b"batch\n")
-    trial.holds(without <= batches, f"{without} runs of {batches} batches did without memory that was refused")
+    trial.holds(without <= batches + 1, f"{without} runs of {batches} batches did without memory that was refused")
 
 
 def refused_memory(kcore):
