@@ -47,10 +47,10 @@ pub level_filled : (level : ℕ) (e : Estimate) (old a b : List ℕ) → old ≡
     → b ≡ a ++ codes " up " → b ≡ level_words level e
 level_filled level e old a b z ea eb = rw (eb, ea, z) (simp append_assoc)
 
--- a vertex line, put together from the words of its level
-pub counted_filled : (v level up down : ℕ) (e : Estimate) (old a b c d words : List ℕ) → old ≡ [] → a ≡ (old ++ codes "vertex ") ++ decimal v
-    → words ≡ level_words level e → b ≡ a ++ words → c ≡ b ++ decimal up → d ≡ (c ++ codes " down ") ++ decimal down → d ++ 10 ∷ [] ≡ vertex_line v level e up down
-counted_filled v level up down e old a b c d words z ea ew eb ec ed = rw (ed, ec, eb, ew, ea, z) (simp append_assoc)
+-- a vertex line, put together from the words of its level after other lines
+pub counted_filled : (v level up down : ℕ) (e : Estimate) (old a b c d f words : List ℕ) → a ≡ (old ++ codes "vertex ") ++ decimal v
+    → words ≡ level_words level e → b ≡ a ++ words → c ≡ b ++ decimal up → d ≡ (c ++ codes " down ") ++ decimal down → f ≡ d ++ 10 ∷ [] → f ≡ old ++ vertex_line v level e up down
+counted_filled v level up down e old a b c d f words ea ew eb ec ed ef = rw (ef, ed, ec, eb, ew, ea) (simp append_assoc)
 
 counts_filled : (number : ℕ) (c : Cleaned) (old a tail : List ℕ) → old ≡ []
     → a ≡ (((((((old ++ codes "batch ") ++ decimal number) ++ codes " loops ") ++ decimal c.loops) ++ codes " repeats ") ++ decimal c.repeats) ++ codes " idle ") ++ decimal c.idle

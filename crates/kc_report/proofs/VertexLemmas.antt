@@ -1,17 +1,18 @@
 -- The lines of the vertices, as they are written one after another.
-use Rattle.std.proofs.Common.{ℕ, zero, suc, ◌≡◌, ◌≤◌, ◌<◌, ◌+◌, ◌-◌, List, [], ◌++◌, get_or, refl, sym, ap, ◌∙◌, subst, append_assoc, arith, inl, inr, add-one}
+use Rattle.std.proofs.Common.{ℕ, zero, suc, ◌≡◌, ◌≤◌, ◌<◌, ◌+◌, ◌-◌, List, [], ◌++◌, get_or, refl, sym, ap, ◌∙◌, append_assoc, arith, inl, inr, add-one}
 use Rattle.std.proofs.lemmas.Bool.{cases_lt}
 use Rattle.std.proofs.lemmas.List.{append-nil}
 use Rattle.std.specs.Io.KnownBytes.{append_known}
 use Rattle.std.specs.Prelude.{Option}
 use Rattle.kc_text.specs.Writing.{IsPrefix}
-use Rattle.kc_text.proofs.lemmas.Writing.{append_twice, prefix_longer, prefix_then}
+use Rattle.kc_text.proofs.lemmas.Writing.{append_none, append_twice, prefix_longer, prefix_then}
 use Rattle.kc_graph.specs.Shape.{GraphShape}
 use Rattle.kc_levels.specs.declared.profile.Profile.{Profile}
 use Rattle.kc_levels.specs.LevelList.{at_least}
 use Rattle.kc_report.specs.declared.vertices.VertexCounts.{VertexCounts}
 use Rattle.kc_report.specs.Lines.{vertex_line, end_line}
 use Rattle.kc_report.specs.VertexLines.{vertex_lines, vertex_text, tail_text, estimate_of, AreCounts}
+use Rattle.kc_report.specs.private.HeldBack.{IsHeldBack}
 use Rattle.kc_report.specs.private.LevelWords.{counted_line}
 
 -- the lines of the vertices below n begin with those below v
@@ -41,15 +42,41 @@ counted_is : (p : Profile) (n : ℕ) (g : GraphShape) (x : List ℕ) (v level up
     → vertex_line v level (estimate_of p n level) up down ≡ vertex_text p g x v
 counted_is p n g x v level up down en el eu ed = rw (en, eu, ed, el) refl
 
--- one more line with counts was written
-pub counts_more : (p : Profile) (n : ℕ) (g : GraphShape) (x : List ℕ) (c : VertexCounts) (before now later : Option (List ℕ)) → n ≡ g.vertices → c.level ≡ get_or x c.v 0 → AreCounts g x c.v (c.up, c.down)
-    → now ≡ append_known before (vertex_lines (vertex_text p g x) c.v) → later ≡ append_known now (counted_line p n c) → later ≡ append_known before (vertex_lines (vertex_text p g x) (c.v + 1))
-counts_more p n g x c before now later en el are e f =
-    lines_more (vertex_text p g x) before now later c.v e (f ∙ ap (λ (text : List ℕ). append_known now text) (counted_is p n g x c.v c.level c.up c.down en el are.0 are.1))
+-- nothing was written, and nothing is held back
+pub held_none : (line : ℕ → List ℕ) (before : Option (List ℕ)) (buf : List ℕ) → buf ≡ [] → IsHeldBack before before (vertex_lines line 0) buf
+unfolding vertex_lines
+held_none line before buf e = record { said = []; all = sym e; taken = append_none before }
 
--- some lines with counts were written, and a prefix of the next
-pub counts_prefix : (p : Profile) (n : ℕ) (g : GraphShape) (x : List ℕ) (c : VertexCounts) (before now later : Option (List ℕ)) → n ≡ g.vertices → c.level ≡ get_or x c.v 0 → AreCounts g x c.v (c.up, c.down) → c.v < g.vertices
-    → now ≡ append_known before (vertex_lines (vertex_text p g x) c.v) → IsPrefix now later (counted_line p n c) → IsPrefix before later (tail_text p g x)
-counts_prefix p n g x c before now later en el are lt e f =
-    let line = subst (λ (text : List ℕ). IsPrefix now later text) (counted_is p n g x c.v c.level c.up c.down en el are.0 are.1) f in
-    prefix_longer before later (vertex_lines (vertex_text p g x) g.vertices) end_line (lines_prefix (vertex_text p g x) before now later c.v g.vertices lt e line)
+-- one more line with counts was written or is held back
+pub held_more : (p : Profile) (n : ℕ) (g : GraphShape) (x : List ℕ) (c : VertexCounts) (before now later : Option (List ℕ)) (old new : List ℕ) → n ≡ g.vertices → c.level ≡ get_or x c.v 0 → AreCounts g x c.v (c.up, c.down)
+    → IsHeldBack before now (vertex_lines (vertex_text p g x) c.v) old → IsHeldBack now later (old ++ counted_line p n c) new → IsHeldBack before later (vertex_lines (vertex_text p g x) (c.v + 1)) new
+unfolding vertex_lines
+held_more p n g x c before now later old new en el are a b =
+    let line : counted_line p n c ≡ vertex_text p g x c.v = counted_is p n g x c.v c.level c.up c.down en el are.0 are.1 in
+    record {
+      said = a.said ++ b.said;
+      all = rw (add-one, a.all) (append_assoc a.said old _ ∙ ap (λ (text : List ℕ). a.said ++ text) (ap (λ (text : List ℕ). old ++ text) (sym line) ∙ b.all) ∙ sym (append_assoc a.said b.said new));
+      taken = append_twice before now later _ _ a.taken b.taken;
+    }
+
+-- some lines with counts were written, and a prefix of what is held back and the next
+pub held_prefix : (p : Profile) (n : ℕ) (g : GraphShape) (x : List ℕ) (c : VertexCounts) (before now later : Option (List ℕ)) (old : List ℕ) → n ≡ g.vertices → c.level ≡ get_or x c.v 0 → AreCounts g x c.v (c.up, c.down) → c.v < g.vertices
+    → IsHeldBack before now (vertex_lines (vertex_text p g x) c.v) old → IsPrefix now later (old ++ counted_line p n c) → IsPrefix before later (tail_text p g x)
+held_prefix p n g x c before now later old en el are lt a b =
+    let more = held_more p n g x c before now later old b.rest en el are a (record { said = b.said; all = b.all; taken = b.taken }) in
+    let there = lines_begin (vertex_text p g x) (c.v + 1) g.vertices (omega arith) in
+    prefix_longer before later (vertex_lines (vertex_text p g x) g.vertices) end_line
+    (rw there.1 (prefix_longer before later (vertex_lines (vertex_text p g x) (c.v + 1)) there.0 (record { said = more.said; rest = b.rest; all = more.all; taken = more.taken })))
+
+-- what was held back was written too
+pub held_sent : (before now later : Option (List ℕ)) (text held : List ℕ) → IsHeldBack before now text held → later ≡ append_known now held → later ≡ append_known before text
+held_sent before now later text held a e = append_twice before now later a.said held a.taken e ∙ ap (λ (said : List ℕ). append_known before said) (sym a.all)
+
+-- a prefix of what was held back was written
+pub held_then : (before now later : Option (List ℕ)) (text held : List ℕ) → IsHeldBack before now text held → IsPrefix now later held → IsPrefix before later text
+held_then before now later text held a b = record {
+  said = a.said ++ b.said;
+  rest = b.rest;
+  all = a.all ∙ ap (λ (rest : List ℕ). a.said ++ rest) b.all ∙ sym (append_assoc a.said b.said b.rest);
+  taken = append_twice before now later a.said b.said a.taken b.taken;
+}

@@ -1,2 +1,3 @@
 -- Words of private contracts and loop invariants: no public contract needs them.
+pub mod HeldBack
 pub mod LevelWords

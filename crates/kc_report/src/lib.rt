@@ -16,6 +16,7 @@
 mod batches;
 mod exact;
 mod head;
+mod held;
 mod level_words;
 mod members;
 mod pairs;

@@ -1,13 +1,15 @@
 //! The line of a vertex in a run: its level, what the level says of its coreness, and two counts of neighbours.
-ghost use Rattle.std.specs.Prelude.{◌≡◌, ℕ, ◌<◌, [], ◌∷◌, ◌++◌, OnOk, length};
+ghost use Rattle.std.specs.Prelude.{◌≡◌, ℕ, ◌<◌, [], ◌∷◌, ◌++◌, OnOk, IfErr, length};
 ghost use Rattle.kc_levels.specs.declared.profile.Profile.{Profile};
 ghost use Rattle.kc_text.specs.Writing.{Appends, WriteCause};
 ghost use Rattle.kc_report.specs.Buffer.{IsCleared};
 ghost use Rattle.kc_report.specs.Lines.{vertex_line};
 ghost use Rattle.kc_report.specs.VertexLines.{AreLevels, GivesCounts, tail_text};
+ghost use Rattle.kc_report.specs.private.HeldBack.{SendsSome, IsLostAfter};
 ghost use Rattle.kc_report.specs.private.LevelWords.{counted_line, AreLevelWords};
 
 use crate::head::put_end;
+use crate::held::send_held;
 use crate::level_words::{compose_words, fill_bounds};
 use kc_graph::Graph;
 use kc_levels::{Estimate, Thresholds};
@@ -66,35 +68,43 @@ pub fn write_vertex<K: Sink>(
     buf.send_to(sink)
 }
 
+// Appends the line of a vertex, with words that were composed for its level (`counted_line`).
 fn fill_counts(buf: &mut LineBuf, words: &[LineBuf], counts: VertexCounts) -> Result<(), AllocError>
     requires { counts.level < length words.now }
-    ensures { (p : Profile) (n : ℕ) → AreLevelWords p n words.now → OnOk result (buf.new ++ 10 ∷ [] ≡ counted_line p n counts) }
+    ensures { (p : Profile) (n : ℕ) → AreLevelWords p n words.now → OnOk result (buf.new ≡ buf.old ++ counted_line p n counts) }
 {
-    buf.clear();
     buf.put_named(b"vertex ", counts.v)?;
     buf.put(words[counts.level as usize].as_bytes())?;
     buf.put_number(counts.up)?;
-    buf.put_named(b" down ", counts.down)
+    buf.put_named(b" down ", counts.down)?;
+    buf.put(b"\n")
 }
 
-/// Writes the line of a vertex as `write_vertex` does, with words that were composed for its level (`counted_line`).
-///
-/// The words are those of a profile and a number of vertices (`AreLevelWords`), and one of them is of the vertex's
-/// level. Costs about half of `write_vertex`, for texts of many vertices. `WriteFault` comes only from a failed write.
-/// After `WriteFault` or `Memory` the sink took a prefix of the line.
-pub fn write_counts<K: Sink>(
+// The bytes of lines from which on they are sent. A write for each line costs a fifth of the time of these lines.
+const BLOCK: usize = 4_096;
+
+// Appends the line of a vertex, as `fill_counts` does, to lines that the buffer holds back. Sends all of them if they
+// are a block.
+//
+// The words are those of a profile and a number of vertices (`AreLevelWords`), and one of them is of the vertex's
+// level. `WriteFault` comes only from a failed write. After `WriteFault` or `Memory` the sink took a prefix of the
+// lines.
+fn write_counts<K: Sink>(
     buf: &mut LineBuf,
     sink: &mut K,
     words: &[LineBuf],
     counts: VertexCounts,
 ) -> Result<(), SendFault>
     requires { counts.level < length words.now }
-    ensures text { (p : Profile) (n : ℕ) → AreLevelWords p n words.now → Appends (K.taken sink.old) (K.taken sink.new) (counted_line p n counts) result }
-    ensures buffer { IsCleared buf.new result }
+    ensures text { (p : Profile) (n : ℕ) → AreLevelWords p n words.now → SendsSome (K.taken sink.old) (K.taken sink.new) (buf.old ++ counted_line p n counts) buf.new result }
+    ensures buffer { IfErr result (IsLostAfter buf.new) }
     ensures cause { WriteCause (K.faults sink.old) (K.faults sink.new) result }
 {
     fill_counts(buf, words, counts)?;
-    buf.send_to(sink)
+    if buf.as_bytes().len() < BLOCK {
+        return Ok(());
+    }
+    send_held(buf, sink)
 }
 
 /// Writes the end of a text of levels (`tail_text`): the line of each vertex in ascending order, and the last line.
@@ -103,7 +113,8 @@ pub fn write_counts<K: Sink>(
 /// a level for each vertex, at most the top. `WriteFault` comes only from a failed write. After `WriteFault` or
 /// `Memory` the sink took a prefix of the lines.
 ///
-/// Composes what a level says once for each level. Takes the memory of one line, and some 100 bytes a level.
+/// Composes what a level says once for each level. Sends lines in blocks of some 4 KiB. Takes the memory of a block,
+/// and some 100 bytes a level.
 pub fn write_level_tail<K: Sink, F: Fn(u32) -> (u32, u32)>(
     alloc: Global,
     buf: &mut LineBuf,
@@ -121,11 +132,13 @@ pub fn write_level_tail<K: Sink, F: Fn(u32) -> (u32, u32)>(
     ensures cause { WriteCause (K.faults sink.old) (K.faults sink.new) result }
 {
     let words = compose_words(alloc, th, levels)?;
+    buf.clear();
     for v in 0..graph.vertices() {
         let (up, down) = counts(v);
         let level = levels[v as usize];
         let counted = VertexCounts { v, level, up, down };
         write_counts(buf, sink, &words, counted)?;
     }
+    send_held(buf, sink)?;
     put_end(buf, sink)
 }

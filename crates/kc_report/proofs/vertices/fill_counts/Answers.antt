@@ -9,7 +9,7 @@ pub returns : goal.returns
 returns c p n w =
     let counts = c.args.counts in
     let words_are = c.as_bytes.ensures ∙ c.index-words-counts.is ∙ get_or_default c.args.words.now counts.level _ [] c.requires ∙ w counts.level c.requires in
-    on_ok_weaker c.put_named-2.result
-    (λ down. counted_filled counts.v counts.level counts.up counts.down (estimate_of p n counts.level) _ _ _ _ _ _ c.clear.ensures c.in_ok-put_named.ensures
-    words_are c.in_ok-put.ensures.ok c.in_ok-put_number.ensures.ok down)
-    c.put_named-2.ensures
+    on_ok_weaker c.put-2.result
+    (λ fed. counted_filled counts.v counts.level counts.up counts.down (estimate_of p n counts.level) _ _ _ _ _ _ _ c.in_ok-put_named.ensures
+    words_are c.in_ok-put.ensures.ok c.in_ok-put_number.ensures.ok c.in_ok-put_named-2.ensures fed)
+    c.put-2.ensures.ok
