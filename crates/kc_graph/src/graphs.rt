@@ -124,6 +124,7 @@ impl Graph {
         }
         for k in place..vertices.len().min(place + TOGETHER) {
             if !self.prefetch_row(vertices[k]) {
+                // Never: `prefetch_row` always returns true.
                 return 0;
             }
         }
@@ -143,6 +144,7 @@ impl Graph {
         for k in place..edges.len().min(place + TOGETHER) {
             let near = edges[k];
             if !(self.prefetch_row(near.a) && self.prefetch_row(near.b)) {
+                // Never: `prefetch_row` always returns true.
                 return near;
             }
         }
