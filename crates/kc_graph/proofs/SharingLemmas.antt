@@ -129,7 +129,7 @@ module _ (first v : ℕ) (halves low high : List Pair) (at : IsCut halves v low 
     taken_in_both s t = rw split (same_taken first (front ++ back) (front' ++ back') (low ++ high) halves whole (both_taken first v low high at.below at.from front back front' back' le len_is s t))
 
 -- what follows of two facts that hold where a call succeeds, holds there
-on_ok_both : {A E : Type 0} (r : Result A E) (P Q S : Type 0) → (P → Q → S) → OnOk r P → OnOk r Q → OnOk r S
+pub on_ok_both : {A E : Type 0} (r : Result A E) (P Q S : Type 0) → (P → Q → S) → OnOk r P → OnOk r Q → OnOk r S
 on_ok_both (Ok x) P Q S then p q = then p q
 on_ok_both (Err e) P Q S then p q = tt
 

@@ -7,11 +7,12 @@ ghost use Rattle.kc_graph.specs.Changes.{AllAbsent, AllPresent};
 
 use crate::crew::Crew;
 use crate::edges::Edge;
-use crate::halves::{Halves, greater_halves};
+use crate::halves::Halves;
 use crate::limits::{MAX_EDGES, MAX_VERTICES};
 use crate::links;
 use crate::rows::Row;
 use crate::sharing::{give_alone, give_by, take_alone, take_by};
+use crate::sorted_halves::{greater_halves, greater_halves_by};
 use std::alloc::{AllocError, Global};
 use std::marker::Model;
 use std::thread::Threads;
@@ -124,6 +125,7 @@ impl Graph {
         }
         for k in place..vertices.len().min(place + TOGETHER) {
             if !self.prefetch_row(vertices[k]) {
+                // Never: `prefetch_row` always returns true.
                 return 0;
             }
         }
@@ -143,6 +145,7 @@ impl Graph {
         for k in place..edges.len().min(place + TOGETHER) {
             let near = edges[k];
             if !(self.prefetch_row(near.a) && self.prefetch_row(near.b)) {
+                // Never: `prefetch_row` always returns true.
                 return near;
             }
         }
@@ -210,7 +213,7 @@ impl Graph {
     ///
     /// Costs what `insert_all` costs, but threads share the passes over neighbours. From 4,096 edges on there are two
     /// of them, and up to one a worker with 2,048 edges for each. To share the passes costs a few passes over the
-    /// pairs.
+    /// pairs. From 65,536 edges on threads share the sort too.
     pub fn par_insert_all<R: Threads + Sync>(
         &mut self,
         crew: &Crew<'_, R>,
@@ -222,7 +225,7 @@ impl Graph {
         ensures ok { OnOk result (self.new ≡ with_edges self.old edges.now) }
         ensures err { OnErr result (self.new ≡ self.old) }
     {
-        let greater = greater_halves(crew.alloc, edges)?;
+        let greater = greater_halves_by(crew, edges)?;
         let halves = Halves::of(&greater, edges);
         if let Err(error) = give_by(crew, halves, &mut self.rows) {
             take_by(crew, halves, &mut self.rows);
@@ -239,7 +242,7 @@ impl Graph {
     ///
     /// Costs a sort of one pair an edge, for which it takes memory. Each vertex that loses neighbours costs at most one
     /// pass over its old neighbours. If it loses few of many, it costs a binary search for each and one move of those
-    /// that stay. Threads share these passes as in `par_insert_all`, and the sort is that of `insert_all`.
+    /// that stay. Threads share these passes and the sort as in `par_insert_all`.
     pub fn par_remove_all<R: Threads + Sync>(
         &mut self,
         crew: &Crew<'_, R>,
@@ -250,7 +253,7 @@ impl Graph {
         ensures ok { OnOk result (self.new ≡ without_edges self.old edges.now) }
         ensures err { OnErr result (self.new ≡ self.old) }
     {
-        let greater = greater_halves(crew.alloc, edges)?;
+        let greater = greater_halves_by(crew, edges)?;
         let halves = Halves::of(&greater, edges);
         take_by(crew, halves, &mut self.rows);
         self.count -= edges.len() as u32;

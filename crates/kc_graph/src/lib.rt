@@ -29,6 +29,7 @@ mod merging;
 mod numbers;
 mod rows;
 mod sharing;
+mod sorted_halves;
 mod sorted_keys;
 mod sorting;
 mod touched;

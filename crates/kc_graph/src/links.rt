@@ -88,6 +88,7 @@ fn prefetch_rows<T: InRow>(rows: &[Row], first: u32, rest: &[T], left: &mut usiz
     }
     for item in &rest[..count.min(AHEAD)] {
         if !prefetch_row(rows, first, item.vertex()) {
+            // Never: `prefetch_row` always returns true.
             return false;
         }
     }
@@ -115,6 +116,7 @@ impl Ahead {
         {
             rest.next_run()
         } else {
+            // Never: `prefetch_rows` always returns true.
             None
         }
     }

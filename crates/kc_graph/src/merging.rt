@@ -7,10 +7,6 @@ ghost use Rattle.kc_graph.specs.private.HalfLists.{halves_of};
 ghost use Rattle.kc_graph.specs.private.Halves.{has_second, SecondsRise};
 
 use crate::halves::Halves;
-use smallvec::SmallVec;
-
-/// The numbers of a row. Up to four lie in the row itself, and more in a block of their own.
-pub type Numbers = SmallVec<u32, 4>;
 
 /// Merges the first `old` numbers with those that come in, from the greatest down, into the end of the list.
 ///
@@ -42,17 +38,6 @@ pub fn merge_back(items: &mut [u32], old: usize, incoming: Halves<'_>) -> (usize
         items[at] = w;
     }
     (i, at)
-}
-
-/// Removes the items from one place up to another.
-pub fn close(items: &mut Numbers, from: usize, to: usize)
-    requires order { from ≤ to }
-    requires within { to ≤ length items.old.items }
-    ensures { items.new.items ≡ take from items.old.items ++ drop to items.old.items }
-{
-    for _ in from..to {
-        let _ = items.remove(from);
-    }
 }
 
 // Returns the first place of an ascending list, from one place on, whose number isn't below x.

@@ -1,15 +1,19 @@
 //! The row of a vertex: its neighbours, ascending.
 
-ghost use Rattle.std.specs.Prelude.{◌≡◌, ℕ, ◌<◌, ◌↔◌, ◌||◌, not, true, [], List, IsTrue, OnOk, OnErr, All, filter};
+ghost use Rattle.std.specs.Prelude.{◌≡◌, ℕ, ◌≤◌, ◌<◌, ◌↔◌, ◌++◌, ◌||◌, not, true, [], List, length, take, drop, IsTrue, OnOk, OnErr, All, filter};
 ghost use Rattle.kc_graph.specs.Numbers.{has_number, RisesFrom};
 ghost use Rattle.kc_graph.specs.private.Numbers.{put, without, Found};
 ghost use Rattle.kc_graph.specs.private.HalfLists.{halves_of};
 ghost use Rattle.kc_graph.specs.private.Halves.{has_second, SecondsRise};
 
 use crate::halves::Halves;
-use crate::merging::{Numbers, close, keep_others, merge_back};
+use crate::merging::{keep_others, merge_back};
+use smallvec::SmallVec;
 use std::alloc::{AllocError, Global};
 use std::marker::Model;
+
+// The numbers of a row. Up to four lie in the row itself, and more in a block of their own.
+type Numbers = SmallVec<u32, 4>;
 
 /// A set of numbers. Contracts see the ascending list of them.
 #[derive(Drop)]
@@ -45,7 +49,7 @@ fn ends_below(items: &[u32], x: u32) -> bool
     }
 }
 
-// The least number of numbers for which a row takes a block.
+// The least room that is added at once. It counts only for a row of fewer than four numbers into which several come.
 const LEAST_ROOM: usize = 6;
 
 // Makes room for further numbers. A full row gets room for two more than twice its numbers: 10, 22, 46 and so on. An
@@ -60,6 +64,18 @@ fn make_room(items: &mut Numbers, further: usize) -> Result<(), AllocError>
         items.reserve_exact(room)?;
     }
     Ok(())
+}
+
+// Removes the numbers from one place up to another. There are none, unless a number that came in was there before. Each
+// costs a move of all that follow it.
+fn close(items: &mut Numbers, from: usize, to: usize)
+    requires order { from ≤ to }
+    requires within { to ≤ length items.old.items }
+    ensures { items.new.items ≡ take from items.old.items ++ drop to items.old.items }
+{
+    for _ in from..to {
+        let _ = items.remove(from);
+    }
 }
 
 impl Row {

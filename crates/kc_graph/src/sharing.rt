@@ -99,24 +99,14 @@ fn middle(halves: Halves<'_>) -> Option<usize>
 fn are_below(halves: Halves<'_>, v: u32) -> bool
     ensures { OnTrue result (All (λ h. h.0 < v) (halves_of halves.entry)) }
 {
-    for k in 0..halves.len() {
-        if halves.vertex_at(k) >= v {
-            return false;
-        }
-    }
-    true
+    halves.below.iter().all(|half| half.v < v) && halves.above.iter().all(|e| e.a < v)
 }
 
 // Returns whether no half is of a vertex below v.
 fn are_from(halves: Halves<'_>, v: u32) -> bool
     ensures { OnTrue result (All (λ h. v ≤ h.0) (halves_of halves.entry)) }
 {
-    for k in 0..halves.len() {
-        if halves.vertex_at(k) < v {
-            return false;
-        }
-    }
-    true
+    halves.below.iter().all(|half| half.v >= v) && halves.above.iter().all(|e| e.a >= v)
 }
 
 // Halves cut in two at a vertex.

@@ -25,6 +25,7 @@ fn prefetch_rows(graph: &Graph, bits: u32, keys: &[u64]) -> bool
     for k in 0..keys.len().min(TOGETHER) {
         let a = keys[k] / 2 >> bits;
         if a < MAX_VERTICES as u64 && !graph.prefetch_row(a as u32) {
+            // Never: `prefetch_row` always returns true.
             return false;
         }
     }
@@ -48,6 +49,7 @@ fn ends_pair_with_prefetch(graph: &Graph, bits: u32, key: u64, later: &[u64]) ->
     ensures { result ≡ is_last_of_pair (unpacked bits key) (map (unpacked bits) later.now) }
 {
     if later.len() % TOGETHER == 0 && !prefetch_rows(graph, bits, later) {
+        // Never: `prefetch_rows` always returns true.
         return false;
     }
     ends_pair(key, later)

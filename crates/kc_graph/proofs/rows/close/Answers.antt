@@ -2,7 +2,7 @@ use Rattle.std.proofs.Common.{ℕ, ◌++◌, ◌-◌, ◌≡◌, ◌∙◌, List
 use Rattle.std.proofs.lemmas.List.{drop-drop, length-take-le}
 use Rattle.std.proofs.lemmas.List.Edits.{remove-append_right}
 use Rattle.std.specs.List.{remove}
-use Rattle.kc_graph.proofs.merging.close.Goals as goal
+use Rattle.kc_graph.proofs.rows.close.Goals as goal
 
 pub loop-preserved : goal.loop-preserved
 loop-preserved c =
