@@ -45,14 +45,12 @@ impl Model for GroupLines {
 }
 
 // Returns where the members of line i begin: at the end of those of the line before it.
-fn start_of(heads: &[Head], i: usize) -> usize
+fn members_start(heads: &[Head], i: usize) -> usize
     requires { i < length heads.now }
     ensures { result ≡ start_of 0 heads.now i }
 {
     if i == 0 { 0 } else { heads[i - 1].end }
 }
-
-ghost use Rattle.kc_audit.specs.private.Flat.{start_of};
 
 // Returns the members of one line among those of all lines.
 fn part_of(members: &[Reply], start: usize, end: usize) -> &[Reply]
@@ -109,7 +107,7 @@ impl GroupLines {
         requires { i < length self.now }
         ensures { IfSome (slice_get self.now i) (λ line. result.now ≡ line.members) }
     {
-        let start = start_of(&self.heads, i);
+        let start = members_start(&self.heads, i);
         part_of(&self.members, start, self.heads[i].end)
     }
 
