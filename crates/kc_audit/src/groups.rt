@@ -1,5 +1,5 @@
 //! The group lines of a run, each with the new levels of its members.
-ghost use Rattle.std.specs.Prelude.{◌≡◌, ◌↔◌, ◌<◌, ◌≤◌, [], ◌∷◌, ◌++◌, length, slice_get, IfSome, IsTrue, OnOk, OnErr};
+ghost use Rattle.std.specs.Prelude.{◌≡◌, ◌<◌, ◌≤◌, [], ◌∷◌, ◌++◌, length, slice_get, IfSome, OnOk, OnErr};
 ghost use Rattle.std.specs.List.{slice_range};
 ghost use Rattle.kc_audit.specs.private.Flat.{start_of};
 
@@ -77,13 +77,6 @@ impl GroupLines {
         ensures { result ≡ length self.now }
     {
         self.heads.len()
-    }
-
-    /// Returns whether there is no line.
-    pub fn is_empty(&self) -> bool
-        ensures { IsTrue result ↔ (self.now ≡ []) }
-    {
-        self.heads.is_empty()
     }
 
     /// Returns the phase of line i, counted from 0.
