@@ -76,10 +76,3 @@ lines_push from (x ∷ hs) ms h new e to =
 pub end_push : (from : ℕ) (hs : List Head) (all : ℕ) (h : Head) (end : ℕ) → EndFrom from hs all → all ≤ h.end → h.end ≡ end → EndFrom from (hs ++ h ∷ []) end
 end_push from [] all h end e a b = (omega (arith, e, a), b)
 end_push from (x ∷ hs) all h end e a b = (e.0, end_push x.end hs all h end e.1 a b)
-
-pub empty_lines : (from : ℕ) (hs : List Head) (ms : List Reply) → lines_from from hs ms ≡ [] → hs ≡ []
-empty_lines from [] ms e = refl
-empty_lines from (h ∷ hs) ms e = absurd cc
-
-pub no_lines : (from : ℕ) (hs : List Head) (ms : List Reply) → hs ≡ [] → lines_from from hs ms ≡ []
-no_lines from hs ms e = rw e refl

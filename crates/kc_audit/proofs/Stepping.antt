@@ -6,12 +6,12 @@ use Rattle.std.proofs.lemmas.Option.{same_Some}
 use Rattle.kc_text.specs.declared.line.Line.{Line}
 use Rattle.kc_text.specs.declared.line.Body.{Body}
 use Rattle.kc_text.specs.declared.line.Body.TheVariants.{Text, TooLong, Limit, End}
+use Rattle.kc_text.specs.declared.document_fault.DocumentFault.{DocumentFault}
+use Rattle.kc_text.specs.declared.document_fault.DocumentFault.TheVariants as fault
 use Rattle.kc_text.specs.declared.reason.Reason.{Reason}
 use Rattle.kc_text.specs.declared.reason.Reason.TheVariants.{LineLong, InputLimit}
 use Rattle.kc_text.specs.Reading.{onto, behind, Takes}
 use Rattle.kc_audit.specs.declared.run_text.RunText.{RunText}
-use Rattle.kc_audit.specs.declared.read.AuditFault.{AuditFault}
-use Rattle.kc_audit.specs.declared.read.AuditFault.TheVariants as fault
 use Rattle.kc_audit.specs.declared.stage.Stage.{Stage}
 use Rattle.kc_audit.specs.declared.stage.Stage.TheVariants.{Batches, Groups, Readers, VertexLines, Closed}
 use Rattle.kc_audit.specs.Kinds.{kind_of}
@@ -70,7 +70,7 @@ step_on F G line old None e h = rw e refl
 step_on F G line old (Some rest) e h = rw e (ap Some (h rest))
 
 -- an answer on later lines is one on the lines before
-pub answer_before : (F G : List Line → Document) (old new : Option (List Line)) (result : Result RunText AuditFault) → option_map F old ≡ option_map G new → Answers G new result → Answers F old result
+pub answer_before : (F G : List Line → Document) (old new : Option (List Line)) (result : Result RunText DocumentFault) → option_map F old ≡ option_map G new → Answers G new result → Answers F old result
 answer_before F G None new result e h = tt
 answer_before F G (Some ls) None result e h = absurd cc
 answer_before F G (Some ls) (Some rest) result e h = rw (same_Some _ _ e) h

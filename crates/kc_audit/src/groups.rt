@@ -1,5 +1,5 @@
 //! The group lines of a run, each with the new levels of its members.
-ghost use Rattle.std.specs.Prelude.{◌≡◌, ◌↔◌, ◌<◌, ◌≤◌, [], ◌∷◌, ◌++◌, length, slice_get, IfSome, IsTrue, OnOk, OnErr};
+ghost use Rattle.std.specs.Prelude.{◌≡◌, ◌<◌, ◌≤◌, [], ◌∷◌, ◌++◌, length, slice_get, IfSome, OnOk, OnErr};
 ghost use Rattle.std.specs.List.{slice_range};
 ghost use Rattle.kc_audit.specs.private.Flat.{start_of};
 
@@ -45,14 +45,12 @@ impl Model for GroupLines {
 }
 
 // Returns where the members of line i begin: at the end of those of the line before it.
-fn start_of(heads: &[Head], i: usize) -> usize
+fn members_start(heads: &[Head], i: usize) -> usize
     requires { i < length heads.now }
     ensures { result ≡ start_of 0 heads.now i }
 {
     if i == 0 { 0 } else { heads[i - 1].end }
 }
-
-ghost use Rattle.kc_audit.specs.private.Flat.{start_of};
 
 // Returns the members of one line among those of all lines.
 fn part_of(members: &[Reply], start: usize, end: usize) -> &[Reply]
@@ -81,13 +79,6 @@ impl GroupLines {
         self.heads.len()
     }
 
-    /// Returns whether there is no line.
-    pub fn is_empty(&self) -> bool
-        ensures { IsTrue result ↔ (self.now ≡ []) }
-    {
-        self.heads.is_empty()
-    }
-
     /// Returns the phase of line i, counted from 0.
     pub fn phase(&self, i: usize) -> u32
         requires { i < length self.now }
@@ -109,7 +100,7 @@ impl GroupLines {
         requires { i < length self.now }
         ensures { IfSome (slice_get self.now i) (λ line. result.now ≡ line.members) }
     {
-        let start = start_of(&self.heads, i);
+        let start = members_start(&self.heads, i);
         part_of(&self.members, start, self.heads[i].end)
     }
 

@@ -1,55 +1,20 @@
 //! Reading of a run text, line by line, into what an audit needs, or up to its first line that doesn't fit.
-ghost use Rattle.std.specs.Prelude.{◌≡◌, IfOk};
+ghost use Rattle.std.specs.Prelude.{IfOk};
+ghost use Rattle.kc_text.specs.Causes.{DocumentCause};
 ghost use Rattle.kc_text.specs.Kept.{kept_left};
-ghost use Rattle.kc_audit.specs.Runs.{IsAuditable};
-ghost use Rattle.kc_audit.specs.Documents.{first_place, read_from, document_of};
-ghost use Rattle.kc_audit.specs.Reads.{Answers, AuditCause};
 ghost use Rattle.kc_audit.specs.declared.stage.Stage.TheVariants.{Batches};
+ghost use Rattle.kc_audit.specs.Documents.{first_place, read_from, document_of};
+ghost use Rattle.kc_audit.specs.Reads.{Answers};
+ghost use Rattle.kc_audit.specs.Runs.{IsAuditable};
 
 use crate::RunText;
 use crate::form::{FormLine, form_of};
 use crate::stage::{Draft, PhasesLeft, Place, Stage, Turn, head_of, turn_at, vertices_of};
-use kc_text::{LineFault, LineReader, Reason, Source, give_back, next_kept, text_of};
-use std::alloc::{AllocError, Global};
-use thiserror::Error;
+use kc_text::{DocumentFault, LineReader, Source, give_back, next_kept, text_of};
+use std::alloc::Global;
 
 /// Why there is no run text.
-#[derive(Drop, Debug, Error)]
-pub enum AuditFault {
-    /// A read of the source failed.
-    #[error("a read of the source failed")]
-    ReadFault,
-    /// The first line that doesn't fit, and the reason: `LineLong`, `BadLine`, `BadVertex`, `Truncated` or
-    /// `InputLimit`.
-    #[error("the run text is refused at line {line}")]
-    Refused { line: u32, reason: Reason },
-    /// No memory for a line, a group or the replies of a reader.
-    #[error(transparent)]
-    Memory(AllocError),
-}
-
-impl From<LineFault> for AuditFault {
-    ghost use Rattle.kc_audit.specs.Reads.{fault_of};
-
-    ghost from_gives = { λ f s. s ≡ fault_of f };
-
-    fn from(fault: LineFault) -> AuditFault {
-        match fault {
-            LineFault::ReadFault => AuditFault::ReadFault,
-            LineFault::Memory(e) => AuditFault::Memory(e),
-        }
-    }
-}
-
-impl From<AllocError> for AuditFault {
-    ghost use Rattle.kc_audit.specs.declared.read.AuditFault.TheVariants.{Memory};
-
-    ghost from_gives = { λ e s. s ≡ Memory e };
-
-    fn from(fault: AllocError) -> AuditFault {
-        AuditFault::Memory(fault)
-    }
-}
+pub type AuditFault = DocumentFault;
 
 // Reads the lines after `vertices N` into a draft, which has none of them yet.
 fn read_lines<S: Source>(
@@ -60,7 +25,7 @@ fn read_lines<S: Source>(
     requires { IsAuditable draft.run }
     ensures document { Answers (read_from draft.run (Batches first_place)) (kept_left reader.old (S.left src.old)) result }
     ensures sound { IfOk result IsAuditable }
-    ensures cause { AuditCause (S.faults src.old) (S.faults src.new) result }
+    ensures cause { DocumentCause (S.faults src.old) (S.faults src.new) result }
 {
     let mut draft = draft;
     let alloc = draft.alloc;
@@ -115,7 +80,7 @@ pub fn read_run<S: Source>(
 ) -> Result<RunText, AuditFault>
     ensures document { Answers document_of (kept_left reader.old (S.left src.old)) result }
     ensures sound { IfOk result IsAuditable }
-    ensures cause { AuditCause (S.faults src.old) (S.faults src.new) result }
+    ensures cause { DocumentCause (S.faults src.old) (S.faults src.new) result }
 {
     let first = next_kept(alloc, reader, src)?;
     let line = first.number;

@@ -52,7 +52,7 @@ fn go_on(levels: &[u16], awaited: &mut [bool], readers: &[Replies], passed: &mut
 }
 
 // Marks the next vertex of each reader with a reply left as awaited. Returns whether there is such a reader.
-fn wait(awaited: &mut [bool], readers: &[Replies], passed: &[usize]) -> bool
+fn mark_awaited(awaited: &mut [bool], readers: &[Replies], passed: &[usize]) -> bool
     requires below { All (AreBelow (length awaited.old)) readers.now }
     requires within { AreWithin readers.now passed.now }
     ensures awaited { IsAwaited awaited.new readers.now passed.now }
@@ -115,7 +115,7 @@ fn advance(levels: &[u16], awaited: &mut [bool], readers: &[Replies], passed: &m
     ensures none { result ≡ false → HaveTold readers.now passed.new }
 {
     go_on(levels, awaited, readers, passed);
-    wait(awaited, readers, passed)
+    mark_awaited(awaited, readers, passed)
 }
 
 // Walks through the history, from levels that are 0 and readers that have passed nothing.

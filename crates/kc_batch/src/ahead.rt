@@ -22,7 +22,7 @@ pub struct Ahead {
 }
 
 impl Ahead {
-    /// Returns that nothing was read ahead, or the `batch` line alone. Takes no memory.
+    /// Makes the state in which nothing was read ahead, or, if `begun`, the `batch` line alone. Takes no memory.
     pub fn new(alloc: Global, rules: Rules, begun: bool) -> Ahead
         ensures rules { result.rules ≡ rules }
         ensures begun { result.begun ≡ begun }

@@ -44,25 +44,19 @@ fn take_items(alloc: Global, reader: &mut LineReader, rules: Rules) -> Result<Ah
     ensures budget { budget reader.new ≤ budget reader.old }
 {
     let mut items = Items::new(alloc);
-    loop {
-        let Some(line) = reader.number_line() else {
-            return Ok(Ahead {
-                rules,
-                begun: true,
-                items,
-            });
-        };
+    while let Some(line) = reader.number_line() {
         let full = items.len() >= rules.item_limit as usize;
         let Turn::Add(item) = turn_at(rules, full, Kind::Item(item_of(line))) else {
-            return Ok(Ahead {
-                rules,
-                begun: true,
-                items,
-            });
+            break;
         };
         reader.pass_line(line.len);
         items.push(item)?;
     }
+    Ok(Ahead {
+        rules,
+        begun: true,
+        items,
+    })
 }
 
 /// Reads the next batch ahead, as far as its lines lie whole in the reader's own memory. These are its `batch` line and

@@ -4,10 +4,10 @@ use Rattle.std.specs.Prelude.{Option, Some, None, Result, Ok, Err}
 use Rattle.std.specs.Option.{option_map}
 use Rattle.std.proofs.lemmas.Option.{same_Some}
 use Rattle.kc_levels.specs.Thresholds.{top_level}
+use Rattle.kc_text.specs.declared.document_fault.DocumentFault.{DocumentFault}
+use Rattle.kc_text.specs.declared.document_fault.DocumentFault.TheVariants as fault
 use Rattle.kc_text.specs.declared.reason.Reason.{Reason}
 use Rattle.kc_cert.specs.declared.certificate.Certificate.{Certificate}
-use Rattle.kc_cert.specs.declared.read.CertFault.{CertFault}
-use Rattle.kc_cert.specs.declared.read.CertFault.TheVariants as fault
 use Rattle.kc_cert.specs.declared.token.Token.{Token}
 use Rattle.kc_cert.specs.declared.token.Kind.{Kind}
 use Rattle.kc_cert.specs.declared.token.Kind.TheVariants as kind
@@ -75,7 +75,7 @@ reaches_on s s' t old None e h told = rw told refl
 reaches_on s s' t old (Some rest) e h told = rw told (ap Some (reads_on s s' t rest e h))
 
 -- the result of the lines from a later stage on
-pub answers_before : (s s' : Stage) (old new : Option (List Token)) (r : Result Certificate CertFault) → option_map (read_from s) old ≡ option_map (read_from s') new → Answers s' new r → Answers s old r
+pub answers_before : (s s' : Stage) (old new : Option (List Token)) (r : Result Certificate DocumentFault) → option_map (read_from s) old ≡ option_map (read_from s') new → Answers s' new r → Answers s old r
 answers_before s s' None new r e a = tt
 answers_before s s' (Some ts) None r e a = absurd cc
 answers_before s s' (Some ts) (Some rest) r e a = rw (same_Some _ _ e) a
@@ -89,7 +89,7 @@ pub answers_refused : (s : Stage) (t : Token) (old new : Option (List Token)) (r
 answers_refused s t old None reason e told = rw told tt
 answers_refused s t old (Some rest) reason e told = rw told (refused s t rest reason e)
 
-pub answers_misfit : {T : Type 0} (s : Stage) (next : T → Stage) (t : Token) (old new : Option (List Token)) (found : Result T Reason) (f : CertFault) → stage_after s t.kind ≡ onward next found → old ≡ option_map (onto_token t) new → Fits t.number found (Err f)
+pub answers_misfit : {T : Type 0} (s : Stage) (next : T → Stage) (t : Token) (old new : Option (List Token)) (found : Result T Reason) (f : DocumentFault) → stage_after s t.kind ≡ onward next found → old ≡ option_map (onto_token t) new → Fits t.number found (Err f)
     → Answers s old (Err f)
 answers_misfit s next t old new found (fault.Refused line reason) e told h = rw h.0 (answers_refused s t old new reason (e ∙ ap (onward next) h.1) told)
 answers_misfit s next t old new found fault.ReadFault e told h = absurd h

@@ -1,10 +1,11 @@
 //! Reads a certificate line by line into a graph and its levels, or refuses it at its first line that doesn't fit.
-ghost use Rattle.std.specs.Prelude.{◌≡◌, ℕ, ◌≤◌, length, IfOk, IfSome};
+ghost use Rattle.std.specs.Prelude.{ℕ, ◌≤◌, length, IfOk, IfSome};
+ghost use Rattle.kc_text.specs.Causes.{DocumentCause};
 ghost use Rattle.kc_graph.specs.declared.limits.TheConstants.{MAX_EDGES, MAX_VERTICES};
 ghost use Rattle.kc_cert.specs.Tokens.{tokens_left};
 ghost use Rattle.kc_cert.specs.Documents.{AtMagic, AtBody, document_of};
 ghost use Rattle.kc_cert.specs.private.Reads.{at_edges, at_levels, at_close, Answers, Fits, Reaches};
-ghost use Rattle.kc_cert.specs.Reads.{IsAnswer, CertCause};
+ghost use Rattle.kc_cert.specs.Reads.{IsAnswer};
 ghost use Rattle.kc_cert.specs.Texts.{IsCertificate};
 
 use crate::Certificate;
@@ -15,53 +16,17 @@ use crate::turn::{
 };
 use kc_graph::{Graph, MAX_EDGES, MAX_VERTICES};
 use kc_levels::{Levels, Profile, Thresholds};
-use kc_text::{LineFault, LineReader, Reason, Source};
-use std::alloc::{AllocError, Global};
-use thiserror::Error;
+use kc_text::{DocumentFault, LineReader, Reason, Source};
+use std::alloc::Global;
 
 /// Why there is no certificate.
-#[derive(Drop, Debug, Error)]
-pub enum CertFault {
-    /// A read of the source failed.
-    #[error("a read of the source failed")]
-    ReadFault,
-    /// The first line that doesn't fit, with its reason: `LineLong`, `BadLine`, `BadVertex`, `Truncated` or
-    /// `InputLimit`.
-    #[error("the certificate is refused at line {line}")]
-    Refused { line: u32, reason: Reason },
-    /// No memory for a line, the graph or the levels.
-    #[error(transparent)]
-    Memory(AllocError),
-}
-
-impl From<LineFault> for CertFault {
-    ghost use Rattle.kc_cert.specs.Reads.{fault_of};
-
-    ghost from_gives = { λ f s. s ≡ fault_of f };
-
-    fn from(fault: LineFault) -> CertFault {
-        match fault {
-            LineFault::ReadFault => CertFault::ReadFault,
-            LineFault::Memory(e) => CertFault::Memory(e),
-        }
-    }
-}
-
-impl From<AllocError> for CertFault {
-    ghost use Rattle.kc_cert.specs.declared.read.CertFault.TheVariants.{Memory};
-
-    ghost from_gives = { λ e s. s ≡ Memory e };
-
-    fn from(fault: AllocError) -> CertFault {
-        CertFault::Memory(fault)
-    }
-}
+pub type CertFault = DocumentFault;
 
 // Returns what the line with this number says if it fits in its place, and refuses the line otherwise.
 #[inline(always)]
 fn fit_at<T: Drop>(line: u32, found: Result<T, Reason>) -> Result<T, CertFault>
     ensures fits { Fits line found result }
-    ensures cause { (count : ℕ) → CertCause count count result }
+    ensures cause { (count : ℕ) → DocumentCause count count result }
 {
     match found {
         Ok(value) => Ok(value),
@@ -90,7 +55,7 @@ fn read_head<S: Source>(
     src: &mut S,
 ) -> Result<Head, CertFault>
     ensures head { Reaches AtMagic (λ h. at_edges h.profile h.n h.edges) (tokens_left reader.old (S.left src.old)) (tokens_left reader.new (S.left src.new)) result }
-    ensures cause { CertCause (S.faults src.old) (S.faults src.new) result }
+    ensures cause { DocumentCause (S.faults src.old) (S.faults src.new) result }
 {
     let first = next_token(alloc, reader, src)?;
     fit_at(first.number, magic_of(first.kind))?;
@@ -112,7 +77,7 @@ fn read_edges<S: Source>(
 ) -> Result<Graph, CertFault>
     ensures edges { Reaches (at_edges head.profile head.n head.edges) (at_levels head.profile) (tokens_left reader.old (S.left src.old)) (tokens_left reader.new (S.left src.new)) result }
     ensures few { IfOk result (λ graph. length graph.edges ≤ MAX_EDGES) }
-    ensures cause { CertCause (S.faults src.old) (S.faults src.new) result }
+    ensures cause { DocumentCause (S.faults src.old) (S.faults src.new) result }
 {
     let n = head.n;
     let mut graph = Graph::new(alloc, n)?;
@@ -140,7 +105,7 @@ fn read_levels<S: Source>(
     requires { length graph.now.edges ≤ MAX_EDGES }
     ensures levels { Reaches (at_levels profile graph.now) (at_close profile graph.now) (tokens_left reader.old (S.left src.old)) (tokens_left reader.new (S.left src.new)) result }
     ensures sound { IfOk result (λ levels. IsCertificate (record { profile = profile; graph = graph.now; levels = levels })) }
-    ensures cause { CertCause (S.faults src.old) (S.faults src.new) result }
+    ensures cause { DocumentCause (S.faults src.old) (S.faults src.new) result }
 {
     let n = graph.vertices();
     let top = Thresholds::new(alloc, profile, n)?.top();
@@ -163,7 +128,7 @@ fn read_end<S: Source>(
     requires { IsCertificate cert }
     ensures document { Answers (AtBody cert 0 0 0 0) (tokens_left reader.old (S.left src.old)) result }
     ensures sound { IfOk result IsCertificate }
-    ensures cause { CertCause (S.faults src.old) (S.faults src.new) result }
+    ensures cause { DocumentCause (S.faults src.old) (S.faults src.new) result }
 {
     let close = next_token(alloc, reader, src)?;
     fit_at(close.number, close_of(close.kind))?;
@@ -197,7 +162,7 @@ pub fn read_certificate<S: Source>(
 ) -> Result<Certificate, CertFault>
     ensures document { IfSome (tokens_left reader.old (S.left src.old)) (λ ts. IsAnswer result (document_of ts)) }
     ensures sound { IfOk result IsCertificate }
-    ensures cause { CertCause (S.faults src.old) (S.faults src.new) result }
+    ensures cause { DocumentCause (S.faults src.old) (S.faults src.new) result }
 {
     let head = read_head(alloc, reader, src)?;
     let graph = read_edges(alloc, reader, src, head)?;

@@ -45,7 +45,7 @@ pub fn write_head<K: Sink>(
     write_opening(buf, sink, b"kcore-run 1", n)
 }
 
-// Writes the last line.
+/// Writes the last line.
 pub fn put_end<K: Sink>(buf: &mut LineBuf, sink: &mut K) -> Result<(), SendFault>
     ensures text { Appends (K.taken sink.old) (K.taken sink.new) end_line result }
     ensures buffer { IsCleared buf.new result }

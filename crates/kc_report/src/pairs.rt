@@ -1,4 +1,4 @@
-//! Words of two numbers, such as those of a vertex and its level in a list.
+//! Two numbers with a byte between them, as in the lines of groups and readers.
 ghost use Rattle.std.specs.Prelude.{◌≡◌, ◌∷◌, ◌++◌, OnOk, decimal};
 
 use itoa::write_digits;
@@ -8,7 +8,9 @@ use std::alloc::AllocError;
 // The most bytes of two numbers, each with a byte before it.
 const LONGEST: usize = 22;
 
-/// Appends a blank, a number, a byte and a second number. The word is composed first, and costs one copy.
+/// Appends a blank, a number, a byte and a second number. They are composed first, and cost one copy.
+///
+/// Fails only if memory runs out; the line is then unchanged.
 pub fn put_pair(buf: &mut LineBuf, first: u32, between: u8, second: u32) -> Result<(), AllocError>
     ensures { OnOk result (buf.new ≡ buf.old ++ 32 ∷ (decimal first ++ between ∷ decimal second)) }
 {

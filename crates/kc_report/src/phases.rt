@@ -44,7 +44,7 @@ fn fill_group<M: Members>(members: &M, buf: &mut LineBuf, group: &Entry) -> Resu
     members.fill(buf, group.moves.as_slice())
 }
 
-// Writes the line of a phase, and those of its groups.
+/// Writes the line of a phase, and those of its groups.
 pub fn write_phase<M: Members, K: Sink>(
     members: &M,
     buf: &mut LineBuf,

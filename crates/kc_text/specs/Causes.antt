@@ -2,6 +2,8 @@
 use Rattle.std.specs.Prelude.{Bool, ℕ, ◌+◌, ◌-◌, ◌^◌, ◌≤◌, ◌≡◌, min, List, Option, Result, Ok, Err}
 use Rattle.kc_text.specs.declared.line.LineFault.{LineFault}
 use Rattle.kc_text.specs.declared.line.LineFault.TheVariants.{ReadFault, Memory}
+use Rattle.kc_text.specs.declared.document_fault.DocumentFault.{DocumentFault}
+use Rattle.kc_text.specs.declared.document_fault.DocumentFault.TheVariants as document
 
 -- the count rose, or stands at its last value
 abbrev pub Rose : ℕ → ℕ → Type 0
@@ -12,6 +14,18 @@ abbrev pub ReadCause : {T : Type 0} → ℕ → ℕ → Result T LineFault → T
 ReadCause before now (Err ReadFault) = Rose before now
 ReadCause before now (Err (Memory _)) = now ≡ before
 ReadCause before now (Ok _) = now ≡ before
+
+-- the fault of a document for a line that the reader didn't give
+abbrev pub fault_of : LineFault → DocumentFault
+fault_of ReadFault = document.ReadFault
+fault_of (Memory e) = document.Memory e
+
+-- the same for a document
+abbrev pub DocumentCause : {T : Type 0} → ℕ → ℕ → Result T DocumentFault → Type 0
+DocumentCause before now (Err document.ReadFault) = Rose before now
+DocumentCause before now (Err (document.Refused _ _)) = now ≡ before
+DocumentCause before now (Err (document.Memory _)) = now ≡ before
+DocumentCause before now (Ok _) = now ≡ before
 
 -- what holds if a read failed
 abbrev pub OnReadFault : {T : Type 0} → Result T LineFault → Type 0 → Type 0

@@ -73,6 +73,8 @@ impl LineReader {
 
     /// Makes a reader that stands before the first line. A line of more than `line_limit` bytes is too long. At most
     /// `input_limit` bytes are made into lines. Each limit is at most 1,073,741,824.
+    ///
+    /// Takes memory for a first read of 64 KiB. Fails only if there is none.
     pub fn new(alloc: Global, line_limit: u32, input_limit: u32) -> Result<Self, AllocError>
         requires line { line_limit ≤ 2 ^ 30 }
         requires input { input_limit ≤ 2 ^ 30 }

@@ -64,6 +64,8 @@ impl Scanner {
     ghost use Rattle.std.specs.Option.{option_map};
 
     /// Makes a scanner that stands before the first line. Both limits are at most 2^30.
+    ///
+    /// Takes memory for a first read of 64 KiB. Fails only if there is none.
     pub fn new(alloc: Global, line_limit: u32, input_limit: u32) -> Result<Self, AllocError>
         requires line { line_limit ≤ 2 ^ 30 }
         requires input { input_limit ≤ 2 ^ 30 }

@@ -45,12 +45,7 @@ impl<W: Write + Drop> StdSink<W, Untold> {
     pub fn new(writer: W) -> Self
         ensures { result ≡ record { taken = None; faults = 0; is_flushed = true } }
     {
-        StdSink {
-            writer,
-            faults: 0,
-            is_flushed: true,
-            told: PhantomData,
-        }
+        StdSink::telling(writer)
     }
 }
 

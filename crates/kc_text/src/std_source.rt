@@ -38,11 +38,7 @@ impl<R: Read + Drop> StdSource<R, Untold> {
     pub fn new(reader: R) -> Self
         ensures { result ≡ record { left = None; faults = 0 } }
     {
-        StdSource {
-            reader,
-            faults: 0,
-            told: PhantomData,
-        }
+        StdSource::telling(reader)
     }
 }
 

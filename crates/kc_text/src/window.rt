@@ -39,7 +39,7 @@ impl Model for Window {
 }
 
 impl Window {
-    /// Makes an empty window.
+    /// Makes an empty window. Takes memory for a first read of 64 KiB. Fails only if there is none.
     pub fn new(alloc: Global) -> Result<Self, AllocError>
         ensures { IfOk result (λ w. w ≡ []) }
     {

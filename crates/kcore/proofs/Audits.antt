@@ -3,14 +3,14 @@ use Rattle.std.proofs.Common.{ℕ, ◌≡◌, Bool, true, List, refl}
 use Rattle.std.specs.Prelude.{Option, Some, None, Result, Ok, Err}
 use Rattle.std.specs.Option.{option_map}
 use Rattle.std.specs.Io.KnownBytes.{append_known}
+use Rattle.kc_text.specs.declared.document_fault.DocumentFault.{DocumentFault}
+use Rattle.kc_text.specs.declared.document_fault.DocumentFault.TheVariants as fault
 use Rattle.kc_text.specs.declared.reason.Reason.{Reason}
 use Rattle.kc_text.specs.Lines.{lines}
 use Rattle.kc_text.specs.Reading.{Reading, lines_left}
 use Rattle.kc_text.specs.Writing.{IsPrefix}
 use Rattle.kc_text.specs.Kept.{kept_left}
 use Rattle.kc_text.proofs.lemmas.Writing.{prefix_none}
-use Rattle.kc_audit.specs.declared.read.AuditFault.{AuditFault}
-use Rattle.kc_audit.specs.declared.read.AuditFault.TheVariants as fault
 use Rattle.kc_audit.specs.declared.run_text.RunText.{RunText}
 use Rattle.kc_audit.specs.declared.verdict.AuditVerdict.{AuditVerdict}
 use Rattle.kc_audit.specs.Documents.{Document, Accepted, Refused, document_of, document_in}
@@ -38,7 +38,7 @@ nothing_written (Some bytes) before f =
     record { text = t.0; refused = t.1.0; is_text = t.1.1; prefix = prefix_none before before t.0 refl }
 
 -- the answer to a reader at the first line is the content of the bytes
-said : (r : Reading) (bytes : List ℕ) (result : Result RunText AuditFault) → ((left : Option (List ℕ)) → lines_left r left ≡ option_map (lines RUN_LINE_LIMIT INPUT_LIMIT) left)
+said : (r : Reading) (bytes : List ℕ) (result : Result RunText DocumentFault) → ((left : Option (List ℕ)) → lines_left r left ≡ option_map (lines RUN_LINE_LIMIT INPUT_LIMIT) left)
     → Answers document_of (kept_left r (Some bytes)) result → IsAnswer result (document_in RUN_LINE_LIMIT INPUT_LIMIT bytes)
 said r bytes result new h = rw new at h
 

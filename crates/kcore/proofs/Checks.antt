@@ -3,14 +3,14 @@ use Rattle.std.proofs.Common.{ℕ, ◌≡◌, Bool, true, List, refl}
 use Rattle.std.specs.Prelude.{Option, Some, None, Result, Ok, Err, IfSome}
 use Rattle.std.specs.Option.{option_map}
 use Rattle.std.specs.Io.KnownBytes.{append_known}
+use Rattle.kc_text.specs.declared.document_fault.DocumentFault.{DocumentFault}
+use Rattle.kc_text.specs.declared.document_fault.DocumentFault.TheVariants as fault
 use Rattle.kc_text.specs.declared.reason.Reason.{Reason}
 use Rattle.kc_text.specs.Lines.{lines}
 use Rattle.kc_text.specs.Reading.{Reading, lines_left}
 use Rattle.kc_text.specs.Writing.{IsPrefix}
 use Rattle.kc_text.proofs.lemmas.Writing.{prefix_none}
 use Rattle.kc_cert.specs.declared.certificate.Certificate.{Certificate}
-use Rattle.kc_cert.specs.declared.read.CertFault.{CertFault}
-use Rattle.kc_cert.specs.declared.read.CertFault.TheVariants as fault
 use Rattle.kc_cert.specs.declared.verdict.Verdict.{Verdict}
 use Rattle.kc_cert.specs.Documents.{Document, Accepted, Refused, document_of}
 use Rattle.kc_cert.specs.Laws.{document_in}
@@ -39,7 +39,7 @@ nothing_written (Some bytes) before f =
     record { text = t.0; refused = t.1.0; is_text = t.1.1; prefix = prefix_none before before t.0 refl }
 
 -- the answer to a reader at the first line is the content of the bytes
-said : (r : Reading) (bytes : List ℕ) (result : Result Certificate CertFault) → ((left : Option (List ℕ)) → lines_left r left ≡ option_map (lines LINE_LIMIT INPUT_LIMIT) left)
+said : (r : Reading) (bytes : List ℕ) (result : Result Certificate DocumentFault) → ((left : Option (List ℕ)) → lines_left r left ≡ option_map (lines LINE_LIMIT INPUT_LIMIT) left)
     → IfSome (tokens_left r (Some bytes)) (λ ts. IsAnswer result (document_of ts)) → IsAnswer result (document_in LINE_LIMIT INPUT_LIMIT bytes)
 said r bytes result new h = rw new at h
 

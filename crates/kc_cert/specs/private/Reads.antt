@@ -3,16 +3,16 @@ use Rattle.std.specs.Prelude.{ℕ, ◌≡◌, List, [], Option, Result, Ok, Err,
 use Rattle.std.specs.Option.{option_map}
 use Rattle.kc_graph.specs.Shape.{GraphShape}
 use Rattle.kc_levels.specs.declared.profile.Profile.{Profile}
+use Rattle.kc_text.specs.declared.document_fault.DocumentFault.{DocumentFault}
+use Rattle.kc_text.specs.declared.document_fault.DocumentFault.TheVariants as fault
 use Rattle.kc_text.specs.declared.reason.Reason.{Reason}
 use Rattle.kc_cert.specs.declared.certificate.Certificate.{Certificate}
-use Rattle.kc_cert.specs.declared.read.CertFault.{CertFault}
-use Rattle.kc_cert.specs.declared.read.CertFault.TheVariants as fault
 use Rattle.kc_cert.specs.declared.token.Token.{Token}
 use Rattle.kc_cert.specs.Documents.{Stage, AtBody, empty_certificate, read_from}
 use Rattle.kc_cert.specs.Reads.{IsAnswer}
 
 -- the result of the lines from a stage on, if the lines are known
-abbrev pub Answers : Stage → Option (List Token) → Result Certificate CertFault → Type 0
+abbrev pub Answers : Stage → Option (List Token) → Result Certificate DocumentFault → Type 0
 Answers stage told result = IfSome told (λ ts. IsAnswer result (read_from stage ts))
 
 -- the first edge is due
@@ -30,12 +30,12 @@ at_close profile graph levels = AtBody (record { profile = profile; graph = grap
 -- the value of the lines from a stage up to a later one, which depends on the value, or a fault
 --
 -- Without a fault the lines before say at the first stage what the lines after it say at the later one.
-abbrev pub Reaches : {T : Type 0} → Stage → (T → Stage) → Option (List Token) → Option (List Token) → Result T CertFault → Type 0
+abbrev pub Reaches : {T : Type 0} → Stage → (T → Stage) → Option (List Token) → Option (List Token) → Result T DocumentFault → Type 0
 Reaches stage next before after (Ok x) = option_map (read_from stage) before ≡ option_map (read_from (next x)) after
 Reaches stage next before after (Err f) = Answers stage before (Err f)
 
 -- the value of a line with this number if it fits, or else the refusal of the line with its reason
-abbrev pub Fits : {T : Type 0} → ℕ → Result T Reason → Result T CertFault → Type 0
+abbrev pub Fits : {T : Type 0} → ℕ → Result T Reason → Result T DocumentFault → Type 0
 Fits number found (Ok x) = found ≡ Ok x
 Fits number found (Err (fault.Refused line reason)) = (line ≡ number) × (found ≡ Err reason)
 Fits number found (Err fault.ReadFault) = ⊥

@@ -372,7 +372,7 @@ fn are_two(words: &Words) -> bool {
 
 #[test]
 fn reasons_and_words(rt: HostRuntime) {
-    assert!(rt; Words::new(rt.alloc()).is_empty());
+    assert!(rt; Words::new(rt.alloc()).len() == 0);
     assert!(rt; are_two(&two_words(&rt)));
     for (reason, want) in REASONS {
         check(&rt, "a reason", reason.word(), want);

@@ -1,6 +1,6 @@
 use Rattle.std.proofs.Common.{◌≡◌, ◌≤◌, ◌<◌, ℕ, get_or, length, true, false, []}
 use Rattle.kc_audit.specs.private.Walks.{reply_at}
-use Rattle.kc_audit.proofs.walk.wait.Given as goal
+use Rattle.kc_audit.proofs.walk.mark_awaited.Given as goal
 
 abbrev pub invariant-loop-reader : goal.invariant-loop-reader
 invariant-loop-reader l = record {
