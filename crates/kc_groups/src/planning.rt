@@ -83,7 +83,7 @@ fn plan_labelled(
 /// Cost:
 ///
 /// - steps for the vertices that move, their neighbours and the edges of the phase, whatever the number of vertices;
-/// - threads for the neighbours: the moves are cut into a piece for each worker, but at most one for each full 8,192
+/// - threads for the neighbours: the moves are cut into a piece for each worker, but at most one for each full 65,536
 ///   moves;
 /// - 4 bytes a move besides the plan; with several pieces also 8 to 16 bytes for each link between two moves.
 ///
