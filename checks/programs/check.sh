@@ -114,8 +114,8 @@ sed '/^reader 0/s/=0$/=1/' "$out" | "$program" audit | grep -qx 'unexplained rea
 # vertex is joined to the next two.
 awk 'function pairs(n, further) { for (v = 0; v < n; v++) print v, v + further }
   BEGIN { print "kcore 1\nvertices 73728\nbatch"; pairs(12288, 12288); print "end\nbatch"; pairs(24576, 24576); pairs(24576, 49152); print "end" }' >"$long"
-awk 'function strip(sign) { print "batch"; for (v = 0; v + 2 < 60000; v++) { print sign, v, v + 1; print sign, v, v + 2 } print "end" }
-  BEGIN { print "kcore 1\nvertices 60000"; strip("+"); strip("-") }' >"$strip"
+awk 'function strip(sign) { print "batch"; for (v = 0; v + 2 < 140000; v++) { print sign, v, v + 1; print sign, v, v + 2 } print "end" }
+  BEGIN { print "kcore 1\nvertices 140000"; strip("+"); strip("-") }' >"$strip"
 for input in "$long" "$strip"; do
   "$program" run 1 <"$input" >"$err"
   [ $? = 0 ] && [ "$(tail -n 1 "$err")" = end ] || wrong "long lists: no text by run 1"
@@ -124,7 +124,7 @@ for input in "$long" "$strip"; do
   done
 done
 # All edges of the strip are gone.
-tail -n 60001 "$err" | grep -qvE '^(vertex [0-9]+ level 0 est 0 low 0 high 0 up 0 down 0|end)$' && wrong "long lists: an edge of the strip is left"
+tail -n 140001 "$err" | grep -qvE '^(vertex [0-9]+ level 0 est 0 low 0 high 0 up 0 down 0|end)$' && wrong "long lists: an edge of the strip is left"
 
 # The counts of a generated load: one line, the same for any number of workers. Nothing is read.
 generates() {
@@ -209,7 +209,7 @@ fi
 # A run with one worker starts no thread. With four it starts as many each time. It starts fewer if some list isn't cut
 # for them, or if there are fewer processors.
 if command -v strace >/dev/null && strace -f -qq -o "$err" true 2>"$out"; then
-  for threads in 1:0 4:66; do
+  for threads in 1:0 4:55; do
     strace -f -qq -e trace=clone,clone3 -e signal=none -o "$err" "$program" run ${threads%:*} <"$strip" >"$out"
     started=$(grep -c 'clone3\?(.*CLONE_THREAD' "$err")
     if [ ${threads%:*} -gt "$(nproc)" ]; then

@@ -47,8 +47,8 @@ pub(crate) fn open_groups(
 // The number of entries that are prefetched together: the entries and their lists lie anywhere in memory.
 const TOGETHER: usize = 16;
 
-// The number of entries from which on they are prefetched. Fewer stay in the near caches by themselves, and it takes
-// longer to look for them than to wait for them.
+// The fewest entries that are prefetched. Fewer stay in the near caches by themselves, and it takes longer to look for
+// them than to wait for them.
 const LEAST_PREFETCHED: usize = 4_096;
 
 // Prefetches the end of the entry's moves: loads the last move. Returns true, since each move of the entry is of one of
@@ -65,7 +65,7 @@ fn prefetch_last_move(entry: &Entry, n: usize) -> bool
 
 // Returns the place of the vertex of move k. At every 16th move, first prefetches the entries of the next 16 if there
 // are many entries.
-fn prefetched_move_place(moves: &[Move], places: &[u32], entries: &[Entry], k: usize) -> u32
+fn move_place_with_prefetch(moves: &[Move], places: &[u32], entries: &[Entry], k: usize) -> u32
     requires inside { k < length moves.now }
     requires placed { All (λ m. (m.vertex < length places.now) × (slice_index places.now m.vertex < length entries.now)) moves.now }
     requires dealt { AreMovesBelow (length places.now) entries.now }
@@ -78,6 +78,7 @@ fn prefetched_move_place(moves: &[Move], places: &[u32], entries: &[Entry], k: u
     for i in k..moves.len().min(k + TOGETHER) {
         let entry = &entries[places[moves[i].vertex as usize] as usize];
         if !prefetch_last_move(entry, places.len()) {
+            // Never: `prefetch_last_move` is always true.
             return 0;
         }
     }
@@ -95,7 +96,7 @@ pub(crate) fn deal_moves(
     ensures { OnOk result (AreDealt (with_moves places.now moves.now) entries.old.items entries.new.items) }
 {
     for k in 0..moves.len() {
-        let place = prefetched_move_place(moves, places, entries, k);
+        let place = move_place_with_prefetch(moves, places, entries, k);
         entries[place as usize].push_move(moves[k])?;
     }
     Ok(())
@@ -129,7 +130,7 @@ fn prefetch_last_edge(entry: &Entry) -> bool
 
 // Returns the place of edge k (`place_at`). At every 16th edge, first prefetches the entries of the next 16 if there
 // are many entries.
-fn prefetched_edge_place(edges: &[Edge], places: &[u32], entries: &[Entry], k: usize) -> u32
+fn edge_place_with_prefetch(edges: &[Edge], places: &[u32], entries: &[Entry], k: usize) -> u32
     requires small { length places.now ≤ MAX_VERTICES }
     requires inside { k < length edges.now }
     requires placed { All (IsPlacedEdge (length places.now) (length entries.now) places.now) edges.now }
@@ -142,6 +143,7 @@ fn prefetched_edge_place(edges: &[Edge], places: &[u32], entries: &[Entry], k: u
     for i in k..edges.len().min(k + TOGETHER) {
         if let Some(entry) = entries.get(place_at(places, edges[i]) as usize) {
             if !prefetch_last_edge(entry) {
+                // Never: `prefetch_last_edge` is always true.
                 return 0;
             }
         }
@@ -166,7 +168,7 @@ pub(crate) fn deal_edges(
 {
     let n = places.len() as u32;
     for k in 0..edges.len() {
-        let place = prefetched_edge_place(edges, places, entries, k);
+        let place = edge_place_with_prefetch(edges, places, entries, k);
         if place < n {
             entries[place as usize].push_edge(edges[k])?;
         } else {

@@ -34,6 +34,7 @@ fn prefetch_rows(graph: &Graph, moves: &[Move], place: u32) -> bool
     let end = moves.len().min(place as usize + TOGETHER as usize);
     for k in place as usize..end {
         if !graph.prefetch_row(moves[k].vertex) {
+            // Never: `prefetch_row` is always true.
             return false;
         }
     }
@@ -41,11 +42,12 @@ fn prefetch_rows(graph: &Graph, moves: &[Move], place: u32) -> bool
 }
 
 // Returns the vertex of the move at `place`. At every 16th place, first prefetches the rows of the next 16.
-fn prefetched_vertex(graph: &Graph, moves: &[Move], place: u32) -> u32
+fn vertex_with_prefetch(graph: &Graph, moves: &[Move], place: u32) -> u32
     requires { place < length moves.now }
     ensures { result ≡ slice_index (vertices moves.now) place }
 {
     if place % TOGETHER == 0 && !prefetch_rows(graph, moves, place) {
+        // Never: `prefetch_rows` is always true.
         return 0;
     }
     moves[place as usize].vertex
@@ -62,7 +64,7 @@ fn link_row(graph: &Graph, moves: &[Move], places: &[u32], parents: &mut Vec<u32
     requires forest { (roots : List ℕ) × IsForest parents.old.items roots }
     ensures { Joins (length moves.now) (in_row graph.now (vertices moves.now) place) parents.old.items parents.new.items }
 {
-    let v = prefetched_vertex(graph, moves, place);
+    let v = vertex_with_prefetch(graph, moves, place);
     // A place of the move's tree, mostly its root: from there the next join needn't look for the root again.
     let mut tree = place;
     for w in graph.neighbours(v) {
@@ -106,7 +108,7 @@ fn find_links(
     requires numbered { AreNumbered graph.now.vertices (vertices moves.now) places.now }
     ensures { OnOk result (Adds (length moves.now) (in_row graph.now (vertices moves.now) place) links.old.items links.new.items) }
 {
-    let v = prefetched_vertex(graph, moves, place);
+    let v = vertex_with_prefetch(graph, moves, place);
     for w in graph.neighbours(v) {
         if *w >= v {
             return Ok(());
@@ -141,7 +143,7 @@ pub(crate) fn links_between(
 }
 
 // Joins the two moves at the ends of each edge, if both ends move.
-pub(crate) fn link_edges(edges: &[Edge], moves: &[Move], places: &[u32], parents: &mut Vec<u32>)
+pub(crate) fn join_ends(edges: &[Edge], moves: &[Move], places: &[u32], parents: &mut Vec<u32>)
     requires small { length moves.now ≤ MAX_VERTICES }
     requires numbered { AreNumbered (length places.now) (vertices moves.now) places.now }
     requires ascending { EdgesFrom (length places.now) 0 0 edges.now }

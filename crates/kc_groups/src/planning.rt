@@ -13,7 +13,7 @@ ghost use Rattle.kc_groups.specs.private.Labels.{IsLabelled};
 ghost use Rattle.kc_groups.specs.WellFormed.{IsWellFormed};
 
 use crate::dealing::{deal_edges, deal_moves, open_groups};
-use crate::linking::{link_edges, link_rows};
+use crate::linking::{join_ends, link_rows};
 use crate::moved::find_moves;
 use crate::pieces::gather_rows;
 use crate::work::{GroupWork, label, number, reset};
@@ -25,7 +25,8 @@ use std::alloc::{AllocError, Global};
 use std::thread::Threads;
 
 // Gives each vertex that moves the label of its group, by a forest of the moves (`gather_rows`). The moves with an edge
-// of `gone` between them are joined too, and each tree is then a group. `places` has the place of each move before.
+// of `gone` between them are joined too, and each tree is then a group. `places` has the place of each move at entry,
+// and its label afterwards (`GroupWork::places`).
 fn label_groups(
     graph: &Graph,
     gone: &[Edge],
@@ -41,7 +42,7 @@ fn label_groups(
 {
     // Evidence for the check: the vertices of the graph are at most `MAX_VERTICES`.
     let _n = graph.vertices();
-    link_edges(gone, moves, places, parents);
+    join_ends(gone, moves, places, parents);
     label(moves, parents, places);
 }
 
@@ -82,7 +83,7 @@ fn plan_labelled(
 /// Cost:
 ///
 /// - steps for the vertices that move, their neighbours and the edges of the phase, whatever the number of vertices;
-/// - threads for the neighbours: the moves are cut into a piece for each worker, but at most one for each full 8,192
+/// - threads for the neighbours: the moves are cut into a piece for each worker, but at most one for each full 65,536
 ///   moves;
 /// - 4 bytes a move besides the plan; with several pieces also 8 to 16 bytes for each link between two moves.
 ///

@@ -10,7 +10,7 @@ use Rattle.kc_groups.proofs.linking.link_row.Goals as goal
 use Rattle.kc_groups.proofs.linking.link_row.Goals.{then-other-place, else-other-place}
 
 pub neighbours-w-items-requires : goal.neighbours-w-items-requires
-neighbours-w-items-requires c = omega (arith, c.prefetched_vertex-v.ensures, vertex_at c.args.moves.now c.args.place c.requires.inside, vertex_inside c.args.graph.now.vertices c.args.moves.now c.args.place c.requires.numbered.below c.requires.inside)
+neighbours-w-items-requires c = omega (arith, c.vertex_with_prefetch-v.ensures, vertex_at c.args.moves.now c.args.place c.requires.inside, vertex_inside c.args.graph.now.vertices c.args.moves.now c.args.place c.requires.numbered.below c.requires.inside)
 
 pub loop-w-init : goal.loop-w-init
 loop-w-init c = (
@@ -71,13 +71,13 @@ pub returns : goal.returns
 returns c before g =
     let ms = c.args.moves.now in
     let vs = vertices c.args.moves.now in
-    let is : c.neighbours-w-items.result.now ≡ neighbours_of (get_or (vertices c.args.moves.now) c.args.place 0) c.args.graph.now.edges = c.neighbours-w-items.ensures.value ∙ ap (λ v. neighbours_of v c.args.graph.now.edges) c.prefetched_vertex-v.ensures in
+    let is : c.neighbours-w-items.result.now ≡ neighbours_of (get_or (vertices c.args.moves.now) c.args.place 0) c.args.graph.now.edges = c.neighbours-w-items.ensures.value ∙ ap (λ v. neighbours_of v c.args.graph.now.edges) c.vertex_with_prefetch-v.ensures in
     rw (many ms) at (row_last before vs c.args.place c.neighbours-w-items.result.now c.loop-w.parents.items c.args.graph.now c.loop-w.w-index c.requires.numbered.rises c.neighbours-w-items.ensures.ascending (omega (arith, many ms, c.requires.inside)) (inl (omega arith)) is (c.loop-w.invariant.4 before (rw (many ms) g)))
 
 pub returns-then-w-v : goal.returns-then-w-v
 returns-then-w-v c before g =
     let ms = c.args.moves.now in
     let vs = vertices c.args.moves.now in
-    let is : c.neighbours-w-items.result.now ≡ neighbours_of (get_or (vertices c.args.moves.now) c.args.place 0) c.args.graph.now.edges = c.neighbours-w-items.ensures.value ∙ ap (λ v. neighbours_of v c.args.graph.now.edges) c.prefetched_vertex-v.ensures in
-    let cut : get_or (vertices c.args.moves.now) c.args.place 0 ≤ get_or c.neighbours-w-items.result.now c.loop-w.w-index 0 = omega (arith, c.prefetched_vertex-v.ensures, c.if-w-v.true) in
+    let is : c.neighbours-w-items.result.now ≡ neighbours_of (get_or (vertices c.args.moves.now) c.args.place 0) c.args.graph.now.edges = c.neighbours-w-items.ensures.value ∙ ap (λ v. neighbours_of v c.args.graph.now.edges) c.vertex_with_prefetch-v.ensures in
+    let cut : get_or (vertices c.args.moves.now) c.args.place 0 ≤ get_or c.neighbours-w-items.result.now c.loop-w.w-index 0 = omega (arith, c.vertex_with_prefetch-v.ensures, c.if-w-v.true) in
     rw (many ms) at (row_last before vs c.args.place c.neighbours-w-items.result.now c.loop-w.parents.items c.args.graph.now c.loop-w.w-index c.requires.numbered.rises c.neighbours-w-items.ensures.ascending (omega (arith, many ms, c.requires.inside)) (inr (omega arith, cut)) is (c.loop-w.invariant.4 before (rw (many ms) g)))

@@ -7,36 +7,36 @@ use Rattle.kc_groups.proofs.WorkLemmas.{many}
 use Rattle.kc_groups.proofs.PlanLemmas.{labels_here}
 use Rattle.kc_groups.proofs.planning.label_groups.Goals as goal
 
-pub link_edges-requires-clause-small : goal.link_edges-requires-clause-small
-link_edges-requires-clause-small c =
+pub join_ends-requires-clause-small : goal.join_ends-requires-clause-small
+join_ends-requires-clause-small c =
     let few = length-rising c.args.graph.now.vertices 0 (vertices c.args.moves.now) c.requires.order.rises c.requires.order.below (omega arith) in
     omega (arith, few, many c.args.moves.now, c.vertices-n.ensures.small)
 
-pub link_edges-requires-clause-forest : goal.link_edges-requires-clause-forest
-link_edges-requires-clause-forest c = (c.requires.gathered.roots, c.requires.gathered.forest)
+pub join_ends-requires-clause-forest : goal.join_ends-requires-clause-forest
+join_ends-requires-clause-forest c = (c.requires.gathered.roots, c.requires.gathered.forest)
 
 pub label-requires-clause-forest : goal.label-requires-clause-forest
 label-requires-clause-forest c =
     let g = c.args.graph.now in
     let ms = c.args.moves.now in
-    let gathered : AreGathered (length c.args.moves.now) (λ i j. in_rows c.args.graph.now (vertices c.args.moves.now) (length c.args.moves.now) i j || in_edges c.args.gone.now (vertices c.args.moves.now) i j) c.link_edges.new.parents.items =
-    c.link_edges.ensures (in_rows g (vertices ms) (length ms)) c.requires.gathered in
+    let gathered : AreGathered (length c.args.moves.now) (λ i j. in_rows c.args.graph.now (vertices c.args.moves.now) (length c.args.moves.now) i j || in_edges c.args.gone.now (vertices c.args.moves.now) i j) c.join_ends.new.parents.items =
+    c.join_ends.ensures (in_rows g (vertices ms) (length ms)) c.requires.gathered in
     (gathered.roots, rw (c.deref-2.ensures.value) gathered.forest)
 
 pub label-requires-clause-same : goal.label-requires-clause-same
 label-requires-clause-same c =
     let g = c.args.graph.now in
     let ms = c.args.moves.now in
-    let gathered : AreGathered (length c.args.moves.now) (λ i j. in_rows c.args.graph.now (vertices c.args.moves.now) (length c.args.moves.now) i j || in_edges c.args.gone.now (vertices c.args.moves.now) i j) c.link_edges.new.parents.items =
-    c.link_edges.ensures (in_rows g (vertices ms) (length ms)) c.requires.gathered in
+    let gathered : AreGathered (length c.args.moves.now) (λ i j. in_rows c.args.graph.now (vertices c.args.moves.now) (length c.args.moves.now) i j || in_edges c.args.gone.now (vertices c.args.moves.now) i j) c.join_ends.new.parents.items =
+    c.join_ends.ensures (in_rows g (vertices ms) (length ms)) c.requires.gathered in
     rw (c.deref-2.ensures.value) gathered.sized
 
 pub returns : goal.returns
 returns c =
     let g = c.args.graph.now in
     let ms = c.args.moves.now in
-    let gathered : AreGathered (length c.args.moves.now) (λ i j. in_rows c.args.graph.now (vertices c.args.moves.now) (length c.args.moves.now) i j || in_edges c.args.gone.now (vertices c.args.moves.now) i j) c.link_edges.new.parents.items =
-    c.link_edges.ensures (in_rows g (vertices ms) (length ms)) c.requires.gathered in
+    let gathered : AreGathered (length c.args.moves.now) (λ i j. in_rows c.args.graph.now (vertices c.args.moves.now) (length c.args.moves.now) i j || in_edges c.args.gone.now (vertices c.args.moves.now) i j) c.join_ends.new.parents.items =
+    c.join_ends.ensures (in_rows g (vertices ms) (length ms)) c.requires.gathered in
     let long : length c.args.places.now.items ≡ c.args.graph.now.vertices = c.requires.numbered.sized in
-    labels_here g c.args.gone.now ms c.vertices-n.ensures.graph c.requires.order c.requires.ascending c.link_edges.new.parents.items c.label.new.places.items gathered
+    labels_here g c.args.gone.now ms c.vertices-n.ensures.graph c.requires.order c.requires.ascending c.join_ends.new.parents.items c.label.new.places.items gathered
     (λ roots f. rw long at (c.label.ensures roots (rw (c.deref-2.ensures.value) f)))

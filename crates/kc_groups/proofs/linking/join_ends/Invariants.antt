@@ -2,7 +2,7 @@ use Rattle.std.proofs.Common.{ℕ, ◌≡◌, Bool, List, length}
 use Rattle.kc_groups.specs.private.Forest.{IsForest, AreGathered}
 use Rattle.kc_groups.specs.Gathering.{vertices}
 use Rattle.kc_groups.proofs.LinkLemmas.{with_first}
-use Rattle.kc_groups.proofs.linking.link_edges.Given as goal
+use Rattle.kc_groups.proofs.linking.join_ends.Given as goal
 
 abbrev pub invariant-loop-e : goal.invariant-loop-e
 invariant-loop-e l =

@@ -6,8 +6,8 @@ use Rattle.kc_groups.specs.private.Forest.{merged}
 use Rattle.kc_groups.specs.Gathering.{vertices}
 use Rattle.kc_groups.proofs.WorkLemmas.{many}
 use Rattle.kc_groups.proofs.LinkLemmas.{edges_first, edges_last, edge_past, edge_link}
-use Rattle.kc_groups.proofs.linking.link_edges.Goals as goal
-use Rattle.kc_groups.proofs.linking.link_edges.Goals.{then-first-m+then-second-m, else-first-m, else-first-m-via-then-first-m+else-second-m, else-first-m-via-else-first-m}
+use Rattle.kc_groups.proofs.linking.join_ends.Goals as goal
+use Rattle.kc_groups.proofs.linking.join_ends.Goals.{then-first-m+then-second-m, else-first-m, else-first-m-via-then-first-m+else-second-m, else-first-m-via-else-first-m}
 
 pub loop-e-init : goal.loop-e-init
 loop-e-init c = (
