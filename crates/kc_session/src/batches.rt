@@ -137,6 +137,9 @@ fn run_and_read<R: Threads + Sync, K: Sink, G: Gate + Sync>(
 /// Afterwards the engine is that after all batches, and the audience is up to date with it. Text that was written is
 /// flushed before the call waits for bytes of the next batch. If there are several workers, one more thread reads ahead
 /// while a long batch is applied.
+///
+/// Stops at the first fault of the source, of the sink or of memory. The text written is then a prefix of that of the
+/// batches.
 pub fn run_batches<R: Threads + Sync, S: Source, K: Sink, G: Gate + Sync>(
     context: &SessionContext<'_, R, G>,
     watched: &mut Watched<'_>,
@@ -148,6 +151,7 @@ pub fn run_batches<R: Threads + Sync, S: Source, K: Sink, G: Gate + Sync>(
     ensures run { AreRun context.now.report watched.old watched.new (batches_for context.now.n context.now.profile reader.old (S.left src.old)) (K.taken sink.old) (K.taken sink.new) result }
     ensures cause { FaultCause (S.faults src.old) (S.faults src.new) (K.faults sink.old) (K.faults sink.new) result }
 {
+    // Evidence for the check: the budget of a reader bounds the number of batches.
     reader.has_budget();
     let alloc = context.rounds.alloc();
     let mut reporter = Reporter::new(alloc, context.report);

@@ -160,8 +160,9 @@ impl Generator {
         true
     }
 
-    // Makes the line of the next item, or the last line of the batch. `left` items are still due.
-    fn go_on(&mut self, line: &mut ArrayVec<u8, LINE>, left: u32) -> bool
+    // Makes the line of the next item, or the last line of the batch. `left` items are still due. Always returns true:
+    // a begun batch has a next line.
+    fn continue_batch(&mut self, line: &mut ArrayVec<u8, LINE>, left: u32) -> bool
         requires batch { self.old.place ≡ Items left }
         requires empty { line.old.items ≡ [] }
         requires some { 1 ≤ self.old.n }
@@ -205,7 +206,7 @@ impl Generator {
                 true
             }
             Place::Batch => self.begin_batch(line),
-            Place::Items { left } => self.go_on(line, left),
+            Place::Items { left } => self.continue_batch(line, left),
         }
     }
 }

@@ -7,7 +7,6 @@ ghost use Rattle.kc_batch.specs.BatchInputs.{rules_of};
 ghost use Rattle.kc_report.specs.VertexLines.{tail_text};
 ghost use Rattle.kc_engine.specs.Showing as showing;
 ghost use Rattle.kc_session.specs.Asking.{HaveRun};
-ghost use Rattle.kc_session.specs.declared.audience.Audience.TheVariants.{Nobody};
 ghost use Rattle.kc_session.specs.Faults.{FaultCause};
 ghost use Rattle.kc_session.specs.ReaderLines.{reader_lines};
 ghost use Rattle.kc_session.specs.private.AskLists.{IsAskList};
@@ -54,31 +53,20 @@ struct Askers<'a> {
     agents: Vec<Agent>,
 }
 
-// The values with which the readers of a session begin: their asks, and a store with its writer.
-#[derive(Drop)]
-struct Opened<'a> {
-    // The asks of the header: each vertex is one of the store's.
-    asks: Asks,
-    // The store in which the phases are shown. When it was opened, each vertex was on level 0.
-    store: &'a Store,
-    // The writer of this store, whose history is empty.
-    writer: Writer,
-}
-
 // Applies the batches while the agents ask. The agents are the audience. They learn when the batches begin and when
 // these have ended, also after a fault. If the system starts no thread, the agents run last: before the batches they
 // would look in vain for a beginning.
 fn side_by_side<R: Threads + Sync, S: Source + Send, K: Sink + Send, G: Gate + Sync>(
     context: &SessionContext<'_, R, G>,
     watched: &mut Watched<'_>,
-    reader: &mut LineReader,
+    lines: &mut LineReader,
     src: &mut S,
     sink: &mut K,
     askers: &mut Askers<'_>,
 ) -> Result<Counts, SessionFault>
     requires ready { IsReadyFor context.now.n watched.old }
     requires agents { All (λ a. (a.store ≡ askers.old.store.now) × (a.has_run ≡ false)) askers.old.agents.items }
-    ensures run { AreRun context.now.report watched.old watched.new (batches_for context.now.n context.now.profile reader.old (S.left src.old)) (K.taken sink.old) (K.taken sink.new) result }
+    ensures run { AreRun context.now.report watched.old watched.new (batches_for context.now.n context.now.profile lines.old (S.left src.old)) (K.taken sink.old) (K.taken sink.new) result }
     ensures agents { HaveRun askers.old.agents.items askers.new.agents.items }
     ensures cause { FaultCause (S.faults src.old) (S.faults src.new) (K.faults sink.old) (K.faults sink.new) result }
 {
@@ -96,7 +84,7 @@ fn side_by_side<R: Threads + Sync, S: Source + Send, K: Sink + Send, G: Gate + S
             requires { IsSync R.row × IsSync G.row × IsReadyFor context.now.n watched.now }
         {
             progress.begin();
-            let counts = run_batches(context, watched, reader, src, sink);
+            let counts = run_batches(context, watched, lines, src, sink);
             progress.end();
             counts
         },
@@ -130,119 +118,68 @@ fn write_rest<K: Sink>(
     Ok(levels)
 }
 
-// Runs the part after the head beside readers. Their store and the engine were just opened.
-fn run_opened<'a, R: Threads + Sync, S: Source + Send, K: Sink + Send, G: Gate + Sync>(
-    context: &SessionContext<'_, R, G>,
-    opened: Opened<'a>,
-    watched: &mut Watched<'a>,
-    reader: LineReader,
-    src: &mut S,
-    sink: &mut K,
-) -> Result<Ended, SessionFault>
-    requires table { opened.writer.table ≡ opened.store.now.table }
-    requires size { opened.store.now.vertices ≡ context.now.n }
-    requires none { opened.writer.state.history ≡ [] }
-    requires abreast { showing.IsAbreast opened.writer.state watched.old.engine.state }
-    requires open { IsOpen watched.old.engine }
-    requires start { watched.old.engine.state ≡ start context.now.profile context.now.n }
-    requires asks { IsAskList context.now.n opened.asks }
-    requires lines { context.now.report ≡ Report.Lines }
-    ensures text { WritesBody (header_for context.now.n context.now.profile opened.entry.asks) reader (S.left src.old) (K.taken sink.old) (K.taken sink.new) result }
-    ensures cause { FaultCause (S.faults src.old) (S.faults src.new) (K.faults sink.old) (K.faults sink.new) result }
-{
-    let alloc = context.rounds.alloc();
-    let Opened {
-        asks,
-        store,
-        writer,
-    } = opened;
-    let mut reader = reader;
-    let mut opening = writer;
-    let agents = open_agents(alloc, asks, store, &mut opening)?;
-    let mut askers = Askers { store, agents };
-    watched.audience = Audience::Readers {
-        store,
-        writer: opening,
-    };
-    let counts = side_by_side(context, watched, &mut reader, src, sink, &mut askers)?;
-    let mut writer = take_writer(&mut watched.audience);
-    let lists = close_all(alloc, store, &mut writer, askers.agents)?;
-    let engine = &watched.engine;
-    let levels = write_rest(alloc, store, &mut writer, engine, sink, lists.as_slice())?;
-    let replies = count_replies(lists.as_slice());
-    Ok(Ended::with(counts, engine, replies, levels.as_slice()))
-}
-
-// Runs the part after the head beside readers. Opens a store for them, and an engine.
+// Runs the part after the head beside readers. Opens a store for them, an engine, and an agent for each ask.
 fn run_beside_readers<R: Threads + Sync, S: Source + Send, K: Sink + Send, G: Gate + Sync>(
     context: &SessionContext<'_, R, G>,
     asks: Asks,
-    reader: LineReader,
+    lines: LineReader,
     src: &mut S,
     sink: &mut K,
 ) -> Result<Ended, SessionFault>
     requires asks { IsAskList context.now.n asks }
-    requires lines { context.now.report ≡ Report.Lines }
-    ensures text { WritesBody (header_for context.now.n context.now.profile asks) reader (S.left src.old) (K.taken sink.old) (K.taken sink.new) result }
+    requires report { context.now.report ≡ Report.Lines }
+    ensures text { WritesBody (header_for context.now.n context.now.profile asks) lines (S.left src.old) (K.taken sink.old) (K.taken sink.new) result }
     ensures cause { FaultCause (S.faults src.old) (S.faults src.new) (K.faults sink.old) (K.faults sink.new) result }
 {
     let alloc = context.rounds.alloc();
-    let (store, writer) = Store::open(alloc, context.n, 0)?;
+    let (store, mut writer) = Store::open(alloc, context.n, 0)?;
+    let engine = open(context)?;
+    let agents = open_agents(alloc, asks, &store, &mut writer)?;
+    let mut askers = Askers {
+        store: &store,
+        agents,
+    };
+    let mut watched = Watched {
+        engine,
+        audience: Audience::Readers {
+            store: &store,
+            writer,
+        },
+    };
+    let mut lines = lines;
+    let counts = side_by_side(context, &mut watched, &mut lines, src, sink, &mut askers)?;
+    let mut writer = take_writer(&mut watched.audience);
+    let lists = close_all(alloc, &store, &mut writer, askers.agents)?;
+    let engine = &watched.engine;
+    let levels = write_rest(alloc, &store, &mut writer, engine, sink, lists.as_slice())?;
+    let replies = count_replies(lists.as_slice());
+    Ok(Ended::with(counts, engine, replies, levels.as_slice()))
+}
+
+// Runs the part after the head without readers. No store is opened, and the levels of the vertices are the engine's.
+fn run_without_readers<R: Threads + Sync, S: Source, K: Sink, G: Gate + Sync>(
+    context: &SessionContext<'_, R, G>,
+    lines: LineReader,
+    src: &mut S,
+    sink: &mut K,
+) -> Result<Ended, SessionFault>
+    requires report { context.now.report ≡ Report.Lines }
+    ensures text { WritesBody (header_for context.now.n context.now.profile []) lines (S.left src.old) (K.taken sink.old) (K.taken sink.new) result }
+    ensures cause { FaultCause (S.faults src.old) (S.faults src.new) (K.faults sink.old) (K.faults sink.new) result }
+{
+    let mut lines = lines;
     let engine = open(context)?;
     let mut watched = Watched {
         engine,
         audience: Audience::Nobody,
     };
-    let opened = Opened {
-        asks,
-        store: &store,
-        writer,
-    };
-    run_opened(context, opened, &mut watched, reader, src, sink)
-}
-
-// Runs the batches with an engine that was just opened, and writes the lines of the vertices with the engine's levels.
-fn run_alone<R: Threads + Sync, S: Source, K: Sink, G: Gate + Sync>(
-    context: &SessionContext<'_, R, G>,
-    watched: &mut Watched<'_>,
-    reader: &mut LineReader,
-    src: &mut S,
-    sink: &mut K,
-) -> Result<Ended, SessionFault>
-    requires nobody { watched.old.audience ≡ Nobody }
-    requires open { IsOpen watched.old.engine }
-    requires start { watched.old.engine.state ≡ start context.now.profile context.now.n }
-    requires lines { context.now.report ≡ Report.Lines }
-    ensures text { WritesBody (header_for context.now.n context.now.profile []) reader.old (S.left src.old) (K.taken sink.old) (K.taken sink.new) result }
-    ensures cause { FaultCause (S.faults src.old) (S.faults src.new) (K.faults sink.old) (K.faults sink.new) result }
-{
-    let counts = run_batches(context, watched, reader, src, sink)?;
+    let counts = run_batches(context, &mut watched, &mut lines, src, sink)?;
     let engine = &watched.engine;
     let levels = engine.levels().as_slice();
     let alloc = context.rounds.alloc();
     let mut buf = LineBuf::new(alloc);
     write_tail(alloc, &mut buf, sink, engine, levels)?;
     Ok(Ended::with(counts, engine, 0, levels))
-}
-
-// Runs the part after the head without readers. No store is opened.
-fn run_without_readers<R: Threads + Sync, S: Source, K: Sink, G: Gate + Sync>(
-    context: &SessionContext<'_, R, G>,
-    reader: LineReader,
-    src: &mut S,
-    sink: &mut K,
-) -> Result<Ended, SessionFault>
-    requires lines { context.now.report ≡ Report.Lines }
-    ensures text { WritesBody (header_for context.now.n context.now.profile []) reader (S.left src.old) (K.taken sink.old) (K.taken sink.new) result }
-    ensures cause { FaultCause (S.faults src.old) (S.faults src.new) (K.faults sink.old) (K.faults sink.new) result }
-{
-    let mut reader = reader;
-    let engine = open(context)?;
-    let mut watched = Watched {
-        engine,
-        audience: Audience::Nobody,
-    };
-    run_alone(context, &mut watched, &mut reader, src, sink)
 }
 
 /// Runs the part of an input after its header, batches beside readers, and writes the text of the session

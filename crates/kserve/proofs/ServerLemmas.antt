@@ -14,8 +14,9 @@ use Rattle.kc_engine.specs.Planning.{EngineView}
 use Rattle.kc_intake.specs.declared.updates.Update.{Update}
 use Rattle.kc_intake.specs.Updates.{all_updates}
 use Rattle.kc_intake.specs.Views.{IntakeShape, DrainerShape}
+use Rattle.kc_text.specs.declared.buf.SendFault.TheVariants.{WriteFault, Memory}
 use Rattle.kserve.specs.declared.fault.Stop.{Stop}
-use Rattle.kserve.specs.declared.fault.Stop.TheVariants.{WriteFault, Memory, Stray}
+use Rattle.kserve.specs.declared.fault.Stop.TheVariants.{Fault, Stray}
 use Rattle.kserve.specs.declared.limits.TheConstants.{CAPACITY}
 use Rattle.kserve.specs.Batches.{start}
 use Rattle.kserve.specs.private.Fitting.{are_due}
@@ -58,13 +59,11 @@ after_ok n number s0 s t bs b before now later (Ok x) is h a = record {
   lead = lead_more s0 s t bs b h.lead a.1.0;
   taken = text_then before now later bs b number is h.taken a.1.1;
 }
-after_ok n number s0 s t bs b before now later (Err WriteFault) is h a = prefix_on before now later bs b number is h.taken a
-after_ok n number s0 s t bs b before now later (Err (Memory e)) is h a = prefix_on before now later bs b number is h.taken a
+after_ok n number s0 s t bs b before now later (Err (Fault f)) is h a = prefix_on before now later bs b number is h.taken a
 after_ok n number s0 s t bs b before now later (Err Stray) is h a = (due_more n bs b ∙ and_right (are_due n (all_updates bs)) (are_due n b) a.0, prefix_on before now later bs b number is h.taken a.1)
 
 after_stop : (T : Type 0) (n : ℕ) (s0 s t : State) (bs : List (List Update)) (b : List Update) (before now later : Option (List ℕ)) (stop : Stop) → later ≡ now → Serves {T = T} n s0 bs s before now (Err stop) → Serves {T = T} n s0 (bs ++ b ∷ []) t before later (Err stop)
-after_stop T n s0 s t bs b before now later WriteFault e h = rw e (prefix_stays before now bs b h)
-after_stop T n s0 s t bs b before now later (Memory m) e h = rw e (prefix_stays before now bs b h)
+after_stop T n s0 s t bs b before now later (Fault f) e h = rw e (prefix_stays before now bs b h)
 after_stop T n s0 s t bs b before now later Stray e h = (due_more n bs b ∙ ap (λ d. d && are_due n b) h.0, rw e (prefix_stays before now bs b h.1))
 
 -- one batch more was drained
@@ -119,14 +118,14 @@ served_same n s bs cs t before now course e h = rw e h
 
 -- of the count of faults
 stays : (T : Type 0) (first now later : ℕ) (stop : Stop) → later ≡ now → StopCause {T = T} first now (Err stop) → StopCause {T = T} first later (Err stop)
-stays T first now later WriteFault e c = rw e c
-stays T first now later (Memory m) e c = e ∙ c
+stays T first now later (Fault WriteFault) e c = rw e c
+stays T first now later (Fault (Memory m)) e c = e ∙ c
 stays T first now later Stray e c = e ∙ c
 
 rises : {T : Type 0} (first now later : ℕ) (result : Result T Stop) → now ≡ first → StopCause now later result → StopCause first later result
 rises first now later (Ok y) e c = c ∙ e
-rises first now later (Err WriteFault) e c = rw (sym e) c
-rises first now later (Err (Memory m)) e c = c ∙ e
+rises first now later (Err (Fault WriteFault)) e c = rw (sym e) c
+rises first now later (Err (Fault (Memory m))) e c = c ∙ e
 rises first now later (Err Stray) e c = c ∙ e
 
 pub cause_on : {T : Type 0} (n number : ℕ) (b : List Update) (s t : State) (first now later : ℕ) (taken0 taken1 : Option (List ℕ)) (course result : Result T Stop) → StopCause first now course → GoesOnCause now later course result

@@ -256,12 +256,10 @@ drained_scripts scripts count intake old new clients capacity many all d e t eno
 
 -- once the server stopped, a prefix was printed
 pub prefix_of_stop : (T : Type 0) (n : ℕ) (s : State) (bs : List (List Update)) (t : State) (before now : Option (List ℕ)) (stop : Stop) → Serves {T = T} n s bs t before now (Err stop) → IsPrefix before now (batch_lines 1 bs)
-prefix_of_stop T n s bs t before now stop.WriteFault h = h
-prefix_of_stop T n s bs t before now (stop.Memory m) h = h
+prefix_of_stop T n s bs t before now (stop.Fault f) h = h
 prefix_of_stop T n s bs t before now stop.Stray h = h.1
 
 -- it didn't stop for an item that strayed
 pub no_stray : (T : Type 0) (n : ℕ) (scripts : List (List Item)) (bs : List (List Update)) (t : State) (before now : Option (List ℕ)) (why : Stop) → CanServe n scripts → Fit scripts bs → Serves {T = T} n (start n) bs t before now (Err why) → why ≡ stop.Stray → ⊥
-no_stray T n scripts bs t before now stop.WriteFault a fit h e = absurd cc
-no_stray T n scripts bs t before now (stop.Memory m) a fit h e = absurd cc
+no_stray T n scripts bs t before now (stop.Fault f) a fit h e = absurd cc
 no_stray T n scripts bs t before now stop.Stray a fit h e = none_strays n scripts bs a fit h.0

@@ -9,6 +9,15 @@ use kc_intake::Update;
 use kc_text::{LineBuf, SendFault, Sink};
 use std::alloc::AllocError;
 
+/// A drained batch.
+#[derive(Clone, Copy)]
+pub struct Drained<'a> {
+    /// The number of the batch, counted from 1.
+    pub number: u32,
+    /// The updates of the batch.
+    pub updates: &'a [Update],
+}
+
 // The words of an item, each after a blank.
 fn fill_item(buf: &mut LineBuf, item: Item) -> Result<(), AllocError>
     ensures { OnOk result (buf.new ++ 10 ∷ [] ≡ buf.old ++ (32 ∷ printed_line (item_words item))) }
@@ -38,16 +47,15 @@ fn fill_take(buf: &mut LineBuf, update: Update) -> Result<(), AllocError>
 pub fn write_batch<K: Sink>(
     buf: &mut LineBuf,
     sink: &mut K,
-    number: u32,
-    updates: &[Update],
+    batch: Drained<'_>,
 ) -> Result<(), SendFault>
-    ensures text { Appends (K.taken sink.old) (K.taken sink.new) (batch_text number updates.now) result }
+    ensures text { Appends (K.taken sink.old) (K.taken sink.new) (batch_text batch.entry.number batch.entry.updates.now) result }
     ensures cause { WriteCause (K.faults sink.old) (K.faults sink.new) result }
 {
     buf.clear();
-    buf.put_named(b"batch ", number)?;
+    buf.put_named(b"batch ", batch.number)?;
     buf.send_to(sink)?;
-    for update in updates {
+    for update in batch.updates {
         fill_take(buf, *update)?;
         buf.send_to(sink)?;
     }

@@ -11,25 +11,16 @@ use crate::applying::{apply, items_of};
 use crate::context::ServeContext;
 use crate::fault::Stop;
 use crate::limits::CAPACITY;
-use crate::lines::write_batch;
+use crate::lines::{Drained, write_batch};
 use kc_engine::Engine;
 use kc_graph::MAX_ITEMS;
-use kc_intake::{Drainer, Intake, Update};
+use kc_intake::{Drainer, Intake};
 use kc_rounds::Gate;
-use kc_text::{Failed, LineBuf, Sink};
+use kc_text::{Failed, LineBuf, SendFault, Sink};
 use std::alloc::Global;
 use std::sync::Wait;
 use std::thread;
 use std::thread::Threads;
-
-/// A drained batch.
-#[derive(Clone, Copy)]
-pub struct Drained<'a> {
-    /// The number of the batch, counted from 1.
-    pub number: u32,
-    /// The updates of the batch.
-    pub updates: &'a [Update],
-}
 
 /// The server: the engine that applies its batches, and the line that is put together for them.
 #[derive(Drop)]
@@ -49,7 +40,7 @@ fn hand_on<K: Sink>(sink: &mut K, course: Result<(), Stop>) -> Result<(), Stop>
     match course {
         Ok(()) => match sink.flush() {
             Ok(()) => Ok(()),
-            Err(Failed) => Err(Stop::WriteFault),
+            Err(Failed) => Err(Stop::Fault(SendFault::WriteFault)),
         },
         Err(stop) => Err(stop),
     }
@@ -85,12 +76,11 @@ impl Server {
         ensures cause { StopCause (K.faults sink.old) (K.faults sink.new) result }
     {
         let rounds = &context.rounds;
-        let Drained { number, updates } = batch;
-        let Some(items) = items_of(rounds.alloc(), context.asked.n, updates)? else {
+        let Some(items) = items_of(rounds.alloc(), context.asked.n, batch.updates)? else {
             return Err(Stop::Stray);
         };
         apply(rounds, &mut self.engine, items.as_slice())?;
-        write_batch(&mut self.buf, sink, number, updates)?;
+        write_batch(&mut self.buf, sink, batch)?;
         Ok(())
     }
 

@@ -82,8 +82,7 @@ fn fault_of(stop: Stop) -> SendFault
     ensures { IsFaultOf stop result }
 {
     match stop {
-        Stop::WriteFault => SendFault::WriteFault,
-        Stop::Memory(e) => SendFault::Memory(e),
+        Stop::Fault(fault) => fault,
         Stop::Stray => unreachable!(),
     }
 }
@@ -123,24 +122,6 @@ fn serve_clients<R: Threads + Wait + Sync, K: Sink + Send, G: Gate + Sync>(
     }
 }
 
-// Serves scripts with an engine that was just opened, and writes the text of them (`Writes`).
-fn serve_opened<R: Threads + Wait + Sync, K: Sink + Send, G: Gate + Sync>(
-    context: &ServeContext<'_, R, G>,
-    server: &mut Server,
-    sink: &mut K,
-) -> Result<(), SendFault>
-    requires fresh { IsFresh context.now.n server.old.engine }
-    ensures text { Writes context.now.n context.now.scripts.items (K.taken sink.old) (K.taken sink.new) result }
-    ensures cause { WriteCause (K.faults sink.old) (K.faults sink.new) result }
-{
-    let alloc = context.rounds.alloc();
-    let n = context.asked.n;
-    let mut buf = LineBuf::new(alloc);
-    write_opening(&mut buf, sink, b"kserve-run 1", n)?;
-    serve_clients(context, server, sink)?;
-    write_tail(alloc, &mut buf, sink, &server.engine)
-}
-
 /// Serves the scripts of an input, and writes the text of it (`Writes`). A phase uses the workers of the rounds.
 ///
 /// The head is written first. Then the clients submit their scripts to an intake, while the server drains it and prints
@@ -153,9 +134,12 @@ pub fn serve_scripts<R: Threads + Wait + Sync, K: Sink + Send, G: Gate + Sync>(
     ensures text { Writes context.now.n context.now.scripts.items (K.taken sink.old) (K.taken sink.new) result }
     ensures cause { WriteCause (K.faults sink.old) (K.faults sink.new) result }
 {
-    let rounds = &context.rounds;
-    let alloc = rounds.alloc();
-    let engine = open(alloc, context.asked.n, rounds.workers())?;
+    let alloc = context.rounds.alloc();
+    let n = context.asked.n;
+    let engine = open(alloc, n, context.rounds.workers())?;
     let mut server = Server::new(alloc, engine);
-    serve_opened(context, &mut server, sink)
+    let mut buf = LineBuf::new(alloc);
+    write_opening(&mut buf, sink, b"kserve-run 1", n)?;
+    serve_clients(context, &mut server, sink)?;
+    write_tail(alloc, &mut buf, sink, &server.engine)
 }

@@ -2,6 +2,7 @@
 use Rattle.std.specs.Prelude.{ℕ, ◌≡◌, true, false, List, Option, Some, None, Result, Ok, Err}
 use Rattle.std.specs.Io.KnownBytes.{append_known}
 use Rattle.kc_text.specs.declared.buf.SendFault.{SendFault}
+use Rattle.kc_text.specs.declared.buf.SendFault.TheVariants.{WriteFault, Memory}
 use Rattle.kc_text.specs.Writing.{IsPrefix}
 use Rattle.kc_graph.specs.declared.items.Item.{Item}
 use Rattle.kc_graph.specs.Cleaning.{cleaned}
@@ -10,7 +11,7 @@ use Rattle.kc_engine.specs.Batches.{IsAfterBatch}
 use Rattle.kc_intake.specs.declared.updates.Update.{Update}
 use Rattle.kc_intake.specs.Updates.{all_updates}
 use Rattle.kserve.specs.declared.fault.Stop.{Stop}
-use Rattle.kserve.specs.declared.fault.Stop.TheVariants.{WriteFault, Memory, Stray}
+use Rattle.kserve.specs.declared.fault.Stop.TheVariants.{Fault, Stray}
 use Rattle.kserve.specs.Batches.{start, LeadTo}
 use Rattle.kserve.specs.private.Fitting.{are_due}
 use Rattle.kserve.specs.Fitting.{items_of, Fit}
@@ -24,8 +25,7 @@ AreItems n updates None = are_due n updates ≡ false
 -- a batch was applied to the state s, which became t, and printed with its number; or a prefix of its text was printed
 abbrev pub TakesBatch : {T : Type 0} → ℕ → ℕ → List Update → State → State → Option (List ℕ) → Option (List ℕ) → Result T Stop → Type 0
 TakesBatch n number batch s t before now (Ok _) = (are_due n batch ≡ true) × (IsAfterBatch s (cleaned s.graph (items_of batch)) t × (now ≡ append_known before (batch_text number batch)))
-TakesBatch n number batch s t before now (Err WriteFault) = IsPrefix before now (batch_text number batch)
-TakesBatch n number batch s t before now (Err (Memory _)) = IsPrefix before now (batch_text number batch)
+TakesBatch n number batch s t before now (Err (Fault _)) = IsPrefix before now (batch_text number batch)
 TakesBatch n number batch s t before now (Err Stray) = (are_due n batch ≡ false) × IsPrefix before now (batch_text number batch)
 
 -- that, if the server has gone on so far; once it has stopped, nothing is applied or printed
@@ -36,8 +36,8 @@ GoesOn n number batch s t before now (Err stop) result = (result ≡ Err stop) �
 -- nothing is applied or printed: the server goes on, or stops as a write failed; once it has stopped, it stays so
 abbrev pub IsHandedOn : {T : Type 0} → Result T Stop → Result T Stop → Type 0
 IsHandedOn (Ok _) (Ok _) = Unit {0}
-IsHandedOn (Ok _) (Err WriteFault) = Unit {0}
-IsHandedOn (Ok _) (Err (Memory _)) = ⊥
+IsHandedOn (Ok _) (Err (Fault WriteFault)) = Unit {0}
+IsHandedOn (Ok _) (Err (Fault (Memory _))) = ⊥
 IsHandedOn (Ok _) (Err Stray) = ⊥
 IsHandedOn (Err stop) result = result ≡ Err stop
 
@@ -50,8 +50,7 @@ pub record HaveServed (n : ℕ) (s : State) (batches : List (List Update)) (t : 
 -- that, or a prefix of their text was printed
 abbrev pub Serves : {T : Type 0} → ℕ → State → List (List Update) → State → Option (List ℕ) → Option (List ℕ) → Result T Stop → Type 0
 Serves n s batches t before now (Ok _) = HaveServed n s batches t before now
-Serves n s batches t before now (Err WriteFault) = IsPrefix before now (batch_lines 1 batches)
-Serves n s batches t before now (Err (Memory _)) = IsPrefix before now (batch_lines 1 batches)
+Serves n s batches t before now (Err (Fault _)) = IsPrefix before now (batch_lines 1 batches)
 Serves n s batches t before now (Err Stray) = (are_due n (all_updates batches) ≡ false) × IsPrefix before now (batch_lines 1 batches)
 
 -- the batches fit the scripts, and lead to the state t

@@ -14,6 +14,9 @@ const WRITES: &[(u32, &[u8])] = &[
     (4, b"kserve-run 1\nvertices 2\nbatch 1\n"),
 ];
 
+// A write in the midst of the lines of the 12,000 updates.
+const MIDST: u32 = 5_000;
+
 // Returns a call of which this write fails.
 fn failing_write<'a>(input: &'a [u8], write: u32) -> Call<'a> {
     let call = at_once("2", input);
@@ -31,7 +34,10 @@ fn has_begun<R: Threads + Wait + Sync + AllocGlobal + Abort>(
 }
 
 // Returns whether a call ends at each of these writes, and at one in the midst of its text.
-fn each_write_ends<R: Threads + Wait + Sync + AllocGlobal + Abort>(rt: &R, input: &[u8]) -> bool {
+fn ends_at_each_failing_write<R: Threads + Wait + Sync + AllocGlobal + Abort>(
+    rt: &R,
+    input: &[u8],
+) -> bool {
     for (number, text) in WRITES {
         let call = failing_write(input, *number);
         if !answers(rt, call, Status::WriteFault, *text) {
@@ -40,7 +46,7 @@ fn each_write_ends<R: Threads + Wait + Sync + AllocGlobal + Abort>(rt: &R, input
     }
     has_begun(
         rt,
-        failing_write(input, 5000),
+        failing_write(input, MIDST),
         b"kserve-run 1\nvertices 2\nbatch 1\ntake ",
     )
 }
@@ -48,7 +54,7 @@ fn each_write_ends<R: Threads + Wait + Sync + AllocGlobal + Abort>(rt: &R, input
 #[test]
 fn clients_wait_for_room_while_a_write_fails(rt: HostRuntime) -> Result<(), Fail> {
     let input = equal_scripts(&rt, 4, 3000);
-    assert!(rt; each_write_ends(&rt, input.as_slice()));
+    assert!(rt; ends_at_each_failing_write(&rt, input.as_slice()));
     Ok(())
 }
 

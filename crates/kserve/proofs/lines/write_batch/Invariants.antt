@@ -6,6 +6,6 @@ use Rattle.kserve.proofs.lines.write_batch.Given as goal
 
 abbrev pub invariant-loop-update : goal.invariant-loop-update
 invariant-loop-update g l = record {
-  taken : g.K.Sink.taken l.sink ≡ append_known (g.K.Sink.taken l.fn.sink) (batch_line l.number ++ flat_map take_line (take l.update-index l.updates));
+  taken : g.K.Sink.taken l.sink ≡ append_known (g.K.Sink.taken l.fn.sink) (batch_line l.batch.number ++ flat_map take_line (take l.update-index l.batch.updates.now));
   faults : g.K.Sink.faults l.sink ≡ g.K.Sink.faults l.fn.sink;
 }

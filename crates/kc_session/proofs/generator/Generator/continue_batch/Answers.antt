@@ -1,5 +1,5 @@
 use Rattle.kc_session.proofs.LoadLemmas.{end_made, item_made}
-use Rattle.kc_session.proofs.generator.Generator.go_on.Goals as goal
+use Rattle.kc_session.proofs.generator.Generator.continue_batch.Goals as goal
 
 pub returns-then-left-eq0 : goal.returns-then-left-eq0
 returns-then-left-eq0 c = end_made c.args.self.now c.args.left _ _ c.requires.batch c.if-left-eq0.true c.requires.empty c.put_text.ensures.text
