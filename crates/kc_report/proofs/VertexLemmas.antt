@@ -11,7 +11,7 @@ use Rattle.kc_levels.specs.declared.profile.Profile.{Profile}
 use Rattle.kc_levels.specs.LevelList.{at_least}
 use Rattle.kc_report.specs.declared.vertices.VertexCounts.{VertexCounts}
 use Rattle.kc_report.specs.Lines.{vertex_line, end_line}
-use Rattle.kc_report.specs.VertexLines.{vertex_lines, vertex_text, tail_text, estimate_of, AreCounts}
+use Rattle.kc_report.specs.VertexLines.{vertex_lines, vertex_text, estimate_of, AreCounts}
 use Rattle.kc_report.specs.private.HeldBack.{IsHeldBack}
 use Rattle.kc_report.specs.private.LevelWords.{counted_line}
 
@@ -47,36 +47,33 @@ pub held_none : (line : ℕ → List ℕ) (before : Option (List ℕ)) (buf : Li
 unfolding vertex_lines
 held_none line before buf e = record { said = []; all = sym e; taken = append_none before }
 
--- one more line with counts was written or is held back
-pub held_more : (p : Profile) (n : ℕ) (g : GraphShape) (x : List ℕ) (c : VertexCounts) (before now later : Option (List ℕ)) (old new : List ℕ) → n ≡ g.vertices → c.level ≡ get_or x c.v 0 → AreCounts g x c.v (c.up, c.down)
-    → IsHeldBack before now (vertex_lines (vertex_text p g x) c.v) old → IsHeldBack now later (old ++ counted_line p n c) new → IsHeldBack before later (vertex_lines (vertex_text p g x) (c.v + 1)) new
+-- one more line with counts is held back
+pub held_more : (p : Profile) (n : ℕ) (g : GraphShape) (x : List ℕ) (c : VertexCounts) (before now : Option (List ℕ)) (old new : List ℕ) → n ≡ g.vertices → c.level ≡ get_or x c.v 0 → AreCounts g x c.v (c.up, c.down)
+    → IsHeldBack before now (vertex_lines (vertex_text p g x) c.v) old → new ≡ old ++ counted_line p n c → IsHeldBack before now (vertex_lines (vertex_text p g x) (c.v + 1)) new
 unfolding vertex_lines
-held_more p n g x c before now later old new en el are a b =
+held_more p n g x c before now old new en el are a e =
     let line : counted_line p n c ≡ vertex_text p g x c.v = counted_is p n g x c.v c.level c.up c.down en el are.0 are.1 in
-    record {
-      said = a.said ++ b.said;
-      all = rw (add-one, a.all) (append_assoc a.said old _ ∙ ap (λ (text : List ℕ). a.said ++ text) (ap (λ (text : List ℕ). old ++ text) (sym line) ∙ b.all) ∙ sym (append_assoc a.said b.said new));
-      taken = append_twice before now later _ _ a.taken b.taken;
-    }
-
--- some lines with counts were written, and a prefix of what is held back and the next
-pub held_prefix : (p : Profile) (n : ℕ) (g : GraphShape) (x : List ℕ) (c : VertexCounts) (before now later : Option (List ℕ)) (old : List ℕ) → n ≡ g.vertices → c.level ≡ get_or x c.v 0 → AreCounts g x c.v (c.up, c.down) → c.v < g.vertices
-    → IsHeldBack before now (vertex_lines (vertex_text p g x) c.v) old → IsPrefix now later (old ++ counted_line p n c) → IsPrefix before later (tail_text p g x)
-held_prefix p n g x c before now later old en el are lt a b =
-    let more = held_more p n g x c before now later old b.rest en el are a (record { said = b.said; all = b.all; taken = b.taken }) in
-    let there = lines_begin (vertex_text p g x) (c.v + 1) g.vertices (omega arith) in
-    prefix_longer before later (vertex_lines (vertex_text p g x) g.vertices) end_line
-    (rw there.1 (prefix_longer before later (vertex_lines (vertex_text p g x) (c.v + 1)) there.0 (record { said = more.said; rest = b.rest; all = more.all; taken = more.taken })))
+    record { said = a.said; all = rw (add-one, a.all, e) (append_assoc a.said old _ ∙ ap (λ (text : List ℕ). a.said ++ (old ++ text)) (sym line)); taken = a.taken }
 
 -- what was held back was written too
 pub held_sent : (before now later : Option (List ℕ)) (text held : List ℕ) → IsHeldBack before now text held → later ≡ append_known now held → later ≡ append_known before text
 held_sent before now later text held a e = append_twice before now later a.said held a.taken e ∙ ap (λ (said : List ℕ). append_known before said) (sym a.all)
 
+-- what was held back was written too, and nothing more is held back
+pub held_emptied : (before now later : Option (List ℕ)) (text held new : List ℕ) → IsHeldBack before now text held → later ≡ append_known now held → new ≡ [] → IsHeldBack before later text new
+held_emptied before now later text held new a e none = record { said = text; all = rw none (sym (append-nil text)); taken = held_sent before now later text held a e }
+
 -- a prefix of what was held back was written
-pub held_then : (before now later : Option (List ℕ)) (text held : List ℕ) → IsHeldBack before now text held → IsPrefix now later held → IsPrefix before later text
+held_then : (before now later : Option (List ℕ)) (text held : List ℕ) → IsHeldBack before now text held → IsPrefix now later held → IsPrefix before later text
 held_then before now later text held a b = record {
   said = a.said ++ b.said;
   rest = b.rest;
   all = a.all ∙ ap (λ (rest : List ℕ). a.said ++ rest) b.all ∙ sym (append_assoc a.said b.said b.rest);
   taken = append_twice before now later a.said b.said a.taken b.taken;
 }
+
+-- some lines were written or held back, and a prefix of what was held back was written
+pub held_prefix : (line : ℕ → List ℕ) (before now later : Option (List ℕ)) (v n : ℕ) (held : List ℕ) → v ≤ n → IsHeldBack before now (vertex_lines line v) held → IsPrefix now later held → IsPrefix before later (vertex_lines line n ++ end_line)
+held_prefix line before now later v n held h a b =
+    let there = lines_begin line v n h in
+    prefix_longer before later (vertex_lines line n) end_line (rw there.1 (prefix_longer before later (vertex_lines line v) there.0 (held_then before now later (vertex_lines line v) held a b)))

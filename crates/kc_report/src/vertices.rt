@@ -1,11 +1,10 @@
 //! The line of a vertex in a run: its level, what the level says of its coreness, and two counts of neighbours.
-ghost use Rattle.std.specs.Prelude.{◌≡◌, ℕ, ◌<◌, [], ◌∷◌, ◌++◌, OnOk, IfErr, length};
+ghost use Rattle.std.specs.Prelude.{◌≡◌, ℕ, ◌<◌, [], ◌∷◌, ◌++◌, OnOk, length};
 ghost use Rattle.kc_levels.specs.declared.profile.Profile.{Profile};
 ghost use Rattle.kc_text.specs.Writing.{Appends, WriteCause};
 ghost use Rattle.kc_report.specs.Buffer.{IsCleared};
 ghost use Rattle.kc_report.specs.Lines.{vertex_line};
 ghost use Rattle.kc_report.specs.VertexLines.{AreLevels, GivesCounts, tail_text};
-ghost use Rattle.kc_report.specs.private.HeldBack.{SendsSome, IsLostAfter};
 ghost use Rattle.kc_report.specs.private.LevelWords.{counted_line, AreLevelWords};
 
 use crate::head::put_end;
@@ -83,30 +82,6 @@ fn fill_counts(buf: &mut LineBuf, words: &[LineBuf], counts: VertexCounts) -> Re
 // The bytes of lines from which on they are sent. A write for each line costs a fifth of the time of these lines.
 const BLOCK: usize = 4_096;
 
-// Appends the line of a vertex, as `fill_counts` does, to lines that the buffer holds back. Sends all of them if they
-// are a block.
-//
-// The words are those of a profile and a number of vertices (`AreLevelWords`), and one of them is of the vertex's
-// level. `WriteFault` comes only from a failed write. After `WriteFault` or `Memory` the sink took a prefix of the
-// lines.
-fn write_counts<K: Sink>(
-    buf: &mut LineBuf,
-    sink: &mut K,
-    words: &[LineBuf],
-    counts: VertexCounts,
-) -> Result<(), SendFault>
-    requires { counts.level < length words.now }
-    ensures text { (p : Profile) (n : ℕ) → AreLevelWords p n words.now → SendsSome (K.taken sink.old) (K.taken sink.new) (buf.old ++ counted_line p n counts) buf.new result }
-    ensures buffer { IfErr result (IsLostAfter buf.new) }
-    ensures cause { WriteCause (K.faults sink.old) (K.faults sink.new) result }
-{
-    fill_counts(buf, words, counts)?;
-    if buf.as_bytes().len() < BLOCK {
-        return Ok(());
-    }
-    send_held(buf, sink)
-}
-
 /// Writes the end of a text of levels (`tail_text`): the line of each vertex in ascending order, and the last line.
 ///
 /// `counts` gives the two counts of neighbours of a vertex (`AreCounts`), and `th` are the graph's thresholds. There is
@@ -137,7 +112,10 @@ pub fn write_level_tail<K: Sink, F: Fn(u32) -> (u32, u32)>(
         let (up, down) = counts(v);
         let level = levels[v as usize];
         let counted = VertexCounts { v, level, up, down };
-        write_counts(buf, sink, &words, counted)?;
+        fill_counts(buf, &words, counted)?;
+        if buf.as_bytes().len() >= BLOCK {
+            send_held(buf, sink)?;
+        }
     }
     send_held(buf, sink)?;
     put_end(buf, sink)
