@@ -8,11 +8,31 @@ ghost use Rattle.kcore.specs.private.Process.{HandsOn, last_status};
 
 use crate::top::run_command;
 use kc_rounds::OpenGate;
-use kc_shell::Status;
+use kc_shell::{Status, words_of};
 use kc_text::{StdSink, StdSource, Told, Words};
 use std::io::{BufWriter, Read, Write};
 use std::marker::Brand;
+use std::rt::Env;
 use std::thread::Threads;
+
+// The most bytes of output that are held back.
+const BUFFER: usize = 65_536;
+
+/// Carries out the command of the process's command line from `reader` to `writer` (`program`), and returns its status.
+pub(crate) fn start<
+    T: Threads + Sync + Env + AllocGlobal,
+    R: Read + Drop + Send,
+    W: Write + Drop + Send,
+>(rt: &T, reader: R, writer: W) -> Status {
+    let words = match words_of(rt) {
+        Ok(words) => words,
+        Err(status) => return status,
+    };
+    let Ok(writer) = BufWriter::with_capacity(rt.alloc(), BUFFER, writer) else {
+        return Status::Memory;
+    };
+    program(rt, &words, reader, writer).0
+}
 
 /// Carries out the command of the words from `reader` to `writer`, and flushes the writer. Returns the status of the
 /// command, and the writer without its buffer.

@@ -29,7 +29,7 @@ mod tests;
 mod vertices;
 
 use kc_rounds::OpenGate;
-use kc_shell::{Status, words_of};
+use kc_shell::{Status, keep_memory, words_of};
 use kc_text::{Sink, StdSink, StdSource};
 use serve::serve;
 use std::io::{BufWriter, Write};
@@ -39,6 +39,7 @@ use std::process::ExitCode;
 const BUFFER: usize = 65_536;
 
 fn main(rt: HostRuntime) -> ExitCode {
+    keep_memory(rt.alloc());
     let words = match words_of(&rt) {
         Ok(words) => words,
         Err(status) => return ExitCode::from(status.exit_number()),

@@ -27,17 +27,17 @@ fn fill_member(buf: &mut LineBuf, v: u32) -> Result<(), AllocError>
 }
 
 // Writes the line with the number of members and the number of edges between them, and a line for each member.
-fn write_members<K: Sink>(
+fn write_part<K: Sink>(
     buf: &mut LineBuf,
     sink: &mut K,
-    members: &[u32],
-    edges: u32,
+    part: &kc_dense::Dense,
 ) -> Result<(), SendFault>
-    requires few { length members.now < 2 ^ 32 }
-    ensures text { Appends (K.taken sink.old) (K.taken sink.new) (size_line (length members.now) edges ++ flat_map member_line members.now) result }
+    requires few { length part.now.members.items < 2 ^ 32 }
+    ensures text { Appends (K.taken sink.old) (K.taken sink.new) (size_line (length part.now.members.items) part.now.edges ++ flat_map member_line part.now.members.items) result }
     ensures cause { WriteCause (K.faults sink.old) (K.faults sink.new) result }
 {
-    fill_size(buf, members.len() as u32, edges)?;
+    let members = part.members.as_slice();
+    fill_size(buf, members.len() as u32, part.edges)?;
     buf.send_to(sink)?;
     for v in members {
         fill_member(buf, *v)?;
@@ -53,12 +53,11 @@ impl Document for Dense {
     ghost is_document = { IsDense };
 
     fn write<K: Sink>(alloc: Global, last: &LastState<'_>, sink: &mut K) -> Result<(), SendFault> {
-        let engine = last.engine;
-        let n = engine.graph().vertices();
-        let dense = densest(alloc, engine.graph())?;
+        let graph = last.engine.graph();
+        let part = densest(alloc, graph)?;
         let mut buf = LineBuf::new(alloc);
-        write_opening(&mut buf, sink, b"kcore-dense 1", n)?;
-        write_members(&mut buf, sink, dense.members.as_slice(), dense.edges)?;
+        write_opening(&mut buf, sink, b"kcore-dense 1", graph.vertices())?;
+        write_part(&mut buf, sink, &part)?;
         write_end(alloc, &mut buf, sink)
     }
 
