@@ -6,7 +6,7 @@ use kc_text::{Failed, LineBuf, SendFault, Sink, put_all};
 
 /// Sends what the buffer holds, as it is, and empties the buffer.
 ///
-/// Fails only with `WriteFault`, from a failed write. The sink then took a prefix.
+/// Fails only from a failed write, with `WriteFault`. The sink then took a prefix.
 pub fn send_held<K: Sink>(buf: &mut LineBuf, sink: &mut K) -> Result<(), SendFault>
     ensures text { Appends (K.taken sink.old) (K.taken sink.new) buf.old result }
     ensures buffer { buf.new ≡ [] }

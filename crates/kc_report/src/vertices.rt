@@ -79,8 +79,7 @@ fn fill_counts(buf: &mut LineBuf, words: &[LineBuf], counts: VertexCounts) -> Re
     buf.put(b"\n")
 }
 
-// The bytes of lines from which on they are sent. A write for each line costs a fifth of the instructions of these
-// lines.
+// The bytes of lines from which on they are sent. A write for each line costs a fifth of the time of these lines.
 const BLOCK: usize = 4_096;
 
 /// Writes the end of a text of levels (`tail_text`): the line of each vertex in ascending order, and the last line.
