@@ -36,7 +36,7 @@ fn take_start(reader: &mut LineReader) -> bool
 }
 
 // Takes the lines after a `batch` line that are two numbers and add an item, as long as they lie whole in the reader's
-// memory. Returns the items.
+// memory. Returns them as what was read ahead.
 fn take_items(alloc: Global, reader: &mut LineReader, rules: Rules) -> Result<Ahead, AllocError>
     ensures rules { IfOk result (λ a. a.rules ≡ rules) }
     ensures begun { IfOk result (λ a. a.begun ≡ true) }

@@ -99,7 +99,7 @@ impl Cleaned {
 // The most workers of an engine.
 const MAX_WORKERS: u32 = 64;
 
-// Returns a number of bits that a vertex below n has at most.
+// Returns how many bits suffice for the vertices below n, at most 24.
 fn bits_below(n: u32) -> u32
     requires { n ≤ MAX_VERTICES }
     ensures few { result ≤ 24 }

@@ -12,8 +12,9 @@ use std::alloc::AllocError;
 use std::thread;
 use std::thread::Threads;
 
-// Moves are cut into at most one piece for each full `LEAST_LINKED` moves. Fewer stay in one processor's cache with
-// their trees. One thread then joins each link as it finds it, and that takes less time than lists by several.
+// Moves are cut into at most one piece for each full `LEAST_LINKED` moves. Fewer than twice as many stay in one
+// processor's cache with their trees. One thread then joins each link as it finds it, and that takes less time than
+// lists by several.
 const LEAST_LINKED: usize = 65_536;
 
 // Makes a forest over the moves, in which moves with an edge of the graph between them are in one tree.

@@ -68,7 +68,11 @@ pub fn write_vertex<K: Sink>(
 }
 
 // Appends the line of a vertex, with words that were composed for its level (`counted_line`).
-fn fill_counts(buf: &mut LineBuf, words: &[LineBuf], counts: VertexCounts) -> Result<(), AllocError>
+fn append_counted(
+    buf: &mut LineBuf,
+    words: &[LineBuf],
+    counts: VertexCounts,
+) -> Result<(), AllocError>
     requires { counts.level < length words.now }
     ensures { (p : Profile) (n : ℕ) → AreLevelWords p n words.now → OnOk result (buf.new ≡ buf.old ++ counted_line p n counts) }
 {
@@ -79,7 +83,8 @@ fn fill_counts(buf: &mut LineBuf, words: &[LineBuf], counts: VertexCounts) -> Re
     buf.put(b"\n")
 }
 
-// The bytes of lines from which on they are sent. A write for each line costs a fifth of the time of these lines.
+// The bytes of lines from which on they are sent. A write for each line costs a fifth of the instructions of these
+// lines.
 const BLOCK: usize = 4_096;
 
 /// Writes the end of a text of levels (`tail_text`): the line of each vertex in ascending order, and the last line.
@@ -112,7 +117,7 @@ pub fn write_level_tail<K: Sink, F: Fn(u32) -> (u32, u32)>(
         let (up, down) = counts(v);
         let level = levels[v as usize];
         let counted = VertexCounts { v, level, up, down };
-        fill_counts(buf, &words, counted)?;
+        append_counted(buf, &words, counted)?;
         if buf.as_bytes().len() >= BLOCK {
             send_held(buf, sink)?;
         }

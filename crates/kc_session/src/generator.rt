@@ -54,7 +54,7 @@ fn put_text(line: &mut ArrayVec<u8, LINE>, bytes: &[u8])
     line.try_extend_from_slice(bytes).unwrap();
 }
 
-// Appends bytes and a number.
+// Appends a name, with its blanks, and a number.
 fn put_number(line: &mut ArrayVec<u8, LINE>, name: &[u8], value: u32)
     requires { array_vec_len line.old + length name.now + 10 ≤ LINE }
     ensures text { line.new.items ≡ (line.old.items ++ name.now) ++ decimal value }

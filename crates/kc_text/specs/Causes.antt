@@ -20,7 +20,7 @@ abbrev pub fault_of : LineFault → DocumentFault
 fault_of ReadFault = document.ReadFault
 fault_of (Memory e) = document.Memory e
 
--- the same for a document
+-- a read fault of a document comes only if the source's count of faults rose, and otherwise the count stays
 abbrev pub DocumentCause : {T : Type 0} → ℕ → ℕ → Result T DocumentFault → Type 0
 DocumentCause before now (Err document.ReadFault) = Rose before now
 DocumentCause before now (Err (document.Refused _ _)) = now ≡ before

@@ -1,7 +1,7 @@
 //! The program `kserve`: clients submit updates of a graph all at once, and one server applies them in batches as they
 //! come.
 //!
-//! [`serve::serve`] is the program; `main` only hands it the words of the command line, the standard input and output,
+//! [`serve::serve`] is the program; `main` hands it the words of the command line, the standard input and output,
 //! and ends with its exit number. All scripts are read first ([`reading`]). Then each client submits its script to an
 //! intake (`clients`) while the server drains it, and applies and prints batch after batch (`server`).
 #![tactic(auto)]

@@ -245,7 +245,7 @@ fn is_as_defined(
     has_given(cleaned, &removed, &added, counts_of(items, &parts))
 }
 
-// Returns about half of the pairs of five vertices.
+// Returns a graph of five vertices, with about half of all pairs as edges.
 fn random_graph(rt: &impl Abort, alloc: Global, random: &mut Random) -> Graph
     ensures { result.vertices ≡ 5 }
 {

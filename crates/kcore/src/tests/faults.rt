@@ -22,7 +22,7 @@ const RUN_TEXT: &[u8] = b"kcore-run 1\nvertices 1\nreader 0 0=0\n\
     vertex 0 level 0 est 0 low 0 high 0 up 0 down 0\nend\n";
 
 // A command line, its input, and the number of reads and of writes that the command makes in pieces of 7 bytes. Each
-// line of a text is written by itself.
+// line is written by itself, but the lines of vertices that end `run` go together.
 type Command = (&'static str, &'static [u8], u32, u32);
 
 const COMMANDS: &[Command] = &[

@@ -10,9 +10,9 @@ use Rattle.kc_report.proofs.vertices.write_level_tail.Goals as goal
 pub loop-v-init : goal.loop-v-init
 loop-v-init g c = record { held = held_none _ _ _ c.clear.ensures; faults = refl }
 
-pub returns-in_err-fill_counts-clause-text : goal.returns-in_err-fill_counts-clause-text
-returns-in_err-fill_counts-clause-text g c =
-    let p = err_from_is_err_and c.from_residual-in_err-fill_counts.result c.from_residual-in_err-fill_counts.ensures.1 in
+pub returns-in_err-append_counted-clause-text : goal.returns-in_err-append_counted-clause-text
+returns-in_err-append_counted-clause-text g c =
+    let p = err_from_is_err_and c.from_residual-in_err-append_counted.result c.from_residual-in_err-append_counted.ensures.1 in
     let within : c.loop-v.v < c.args.graph.now.vertices = omega (arith, c.loop-v-test.true, c.vertices-v-end.ensures.count) in
     rw p.1 (held_prefix (vertex_text c.args.th.now.profile c.args.graph.now c.args.levels.now) _ _ _ _ _ _ (omega (arith, within)) c.loop-v.invariant.held (prefix_none _ _ _ refl))
 
@@ -23,7 +23,7 @@ returns-in_err-send_held-clause-text g c =
     let more = held_more c.args.th.now.profile c.args.th.now.vertices c.args.graph.now c.args.levels.now
     (record { v = c.loop-v.v; level = get_or c.args.levels.now c.loop-v.v 0; up = c.counts-up.result.0; down = c.counts-up.result.1 })
     _ _ _ _ c.requires.levels.0 refl (c.requires.counts c.loop-v.v c.counts-up.result within c.counts-up.ensures) c.loop-v.invariant.held
-    (c.in_ok-fill_counts.ensures c.args.th.now.profile c.args.th.now.vertices (rw c.deref.ensures.value c.in_ok-words.ensures.words)) in
+    (c.in_ok-append_counted.ensures c.args.th.now.profile c.args.th.now.vertices (rw c.deref.ensures.value c.in_ok-words.ensures.words)) in
     rw p.1 (held_prefix (vertex_text c.args.th.now.profile c.args.graph.now c.args.levels.now) _ _ _ _ _ _ (omega (arith, within)) more c.in_err-send_held.ensures.text)
 
 pub loop-v-preserved : goal.loop-v-preserved
@@ -32,7 +32,7 @@ loop-v-preserved g c =
     let more = held_more c.args.th.now.profile c.args.th.now.vertices c.args.graph.now c.args.levels.now
     (record { v = c.loop-v.v; level = get_or c.args.levels.now c.loop-v.v 0; up = c.counts-up.result.0; down = c.counts-up.result.1 })
     _ _ _ _ c.requires.levels.0 refl (c.requires.counts c.loop-v.v c.counts-up.result within c.counts-up.ensures) c.loop-v.invariant.held
-    (c.in_ok-fill_counts.ensures c.args.th.now.profile c.args.th.now.vertices (rw c.deref.ensures.value c.in_ok-words.ensures.words)) in
+    (c.in_ok-append_counted.ensures c.args.th.now.profile c.args.th.now.vertices (rw c.deref.ensures.value c.in_ok-words.ensures.words)) in
     elim c.if-as_bytes-ge-BLOCK.branch [
       | then-as_bytes-ge-BLOCK+in_ok-send_held w ↦ rw (w.buf-is, w.sink-is) (record {
         held = held_emptied _ _ _ _ _ _ more w.in_ok-send_held.ensures.text w.in_ok-send_held.ensures.buffer;

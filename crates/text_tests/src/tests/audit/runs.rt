@@ -114,7 +114,7 @@ fn has_three_and_one(rt: &impl Bench, run: &RunText) -> bool {
             return false;
         }
     }
-    groups.len() == 3 && readers.len() == 1 && !readers.is_empty()
+    groups.len() == 3 && readers.len() == 1
 }
 
 #[test]

@@ -3,7 +3,7 @@ use Rattle.std.proofs.lemmas.List.{get_or_default}
 use Rattle.std.proofs.lemmas.Result.{on_ok_weaker}
 use Rattle.kc_report.proofs.LineLemmas.{counted_filled}
 use Rattle.kc_report.specs.VertexLines.{estimate_of}
-use Rattle.kc_report.proofs.vertices.fill_counts.Goals as goal
+use Rattle.kc_report.proofs.vertices.append_counted.Goals as goal
 
 pub returns : goal.returns
 returns c p n w =
