@@ -71,7 +71,7 @@ fn mark_awaited(awaited: &mut [bool], readers: &[Replies], passed: &[usize]) -> 
 }
 
 // Puts each member on its level. Returns whether one of them is awaited.
-fn show(levels: &mut [u16], awaited: &[bool], members: &[Reply]) -> bool
+fn move_members(levels: &mut [u16], awaited: &[bool], members: &[Reply]) -> bool
     requires below { AreBelow (length levels.old) members.now }
     requires sized { length awaited.now ≡ length levels.old }
     ensures levels { levels.new ≡ with_moves levels.old (moves_of members.now) }
@@ -135,7 +135,7 @@ fn walk(
     let mut waits = advance(levels, awaited, readers, passed);
     let mut point = 0;
     while waits && point < run.groups.len() {
-        if show(levels, awaited, run.groups.members(point)) {
+        if move_members(levels, awaited, run.groups.members(point)) {
             waits = advance(levels, awaited, readers, passed);
         }
         point += 1;

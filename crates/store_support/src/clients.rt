@@ -175,7 +175,8 @@ pub fn exchange<R: Threads + Wait + Sync>(
     .0
 }
 
-/// Makes an intake, its drainer, and its clients, which have submitted nothing.
+/// Makes an intake, its drainer, and its clients, which have submitted nothing. Says what `Intake::open` says, in the
+/// form that `Sender::new` and `Server::new` ask for.
 pub fn open(
     alloc: Global,
     capacity: u32,

@@ -23,8 +23,8 @@ fn failing_write<'a>(input: &'a [u8], write: u32) -> Call<'a> {
     Call { write, ..call }
 }
 
-// Returns whether a call with a write that fails has written a text that begins so.
-fn has_begun<R: Threads + Wait + Sync + AllocGlobal + Abort>(
+// Runs a call. Returns whether it ended with `WriteFault` after a text that begins with `text`.
+fn fails_after<R: Threads + Wait + Sync + AllocGlobal + Abort>(
     rt: &R,
     call: Call<'_>,
     text: &[u8],
@@ -44,7 +44,7 @@ fn ends_at_each_failing_write<R: Threads + Wait + Sync + AllocGlobal + Abort>(
             return false;
         }
     }
-    has_begun(
+    fails_after(
         rt,
         failing_write(input, MIDST),
         b"kserve-run 1\nvertices 2\nbatch 1\ntake ",

@@ -96,7 +96,7 @@ impl Counts {
         }
     }
 
-    fn expect(&self, holds: bool) {
+    fn note(&self, holds: bool) {
         if !holds {
             self.missed.store(1, SeqCst);
         }
@@ -104,7 +104,7 @@ impl Counts {
 
     // Holds a thread until a counter has reached this.
     fn hold(&self, counter: &AtomicU64, wanted: u64) {
-        self.expect(waited(counter, wanted));
+        self.note(waited(counter, wanted));
     }
 }
 
@@ -125,7 +125,7 @@ impl Sink for Counting<'_> {
         let counts = self.counts;
         if bytes.starts_with(b"take ".as_slice()) {
             let printed = counts.printed.fetch_add(1, SeqCst);
-            counts.expect(printed < counts.asking.load(SeqCst));
+            counts.note(printed < counts.asking.load(SeqCst));
             if printed == 0 {
                 counts.hold(&counts.asking, self.wanted);
             }
@@ -196,7 +196,7 @@ impl Gate for InStep<'_> {
             Spot::Asking { ask, .. } => {
                 counts.asking.fetch_add(1, SeqCst);
                 counts.hold(&counts.printed, u64::from(ask));
-                counts.expect(ask == 0 || counts.pieces.load(SeqCst) > 0);
+                counts.note(ask == 0 || counts.pieces.load(SeqCst) > 0);
             }
             Spot::Piece { .. } => {
                 counts.pieces.fetch_add(1, SeqCst);
@@ -230,8 +230,8 @@ impl Gate for InTurn<'_> {
             Spot::Asking { ask, .. } => {
                 let before = u64::from(ask);
                 let asking = counts.asking.fetch_add(1, SeqCst);
-                counts.expect(asking == before && counts.replied.load(SeqCst) == before);
-                counts.expect(counts.printed.load(SeqCst) <= before);
+                counts.note(asking == before && counts.replied.load(SeqCst) == before);
+                counts.note(counts.printed.load(SeqCst) <= before);
             }
             Spot::Replied { ask, .. } => {
                 let before = u64::from(ask);
@@ -239,7 +239,7 @@ impl Gate for InTurn<'_> {
                     counts.hold(&counts.printed, 1);
                 }
                 let replied = counts.replied.fetch_add(1, SeqCst);
-                counts.expect(replied == before && counts.asking.load(SeqCst) == before + 1);
+                counts.note(replied == before && counts.asking.load(SeqCst) == before + 1);
             }
             _ => {}
         }

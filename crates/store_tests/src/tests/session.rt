@@ -357,6 +357,7 @@ fn an_agent_is_opened_run_and_closed(rt: HostRuntime) {
     let (store, mut writer) = open_store(&rt, 5);
     let replies = replies_of_one(&rt, &gate, &store, &mut writer);
     assert!(rt; replies.as_slice() == SIX);
+    // Six questions of reader 2: 6 + 100 * 15 + 10,000 * 2 * 6.
     assert!(rt; gate.asking.get() == 121_506 && gate.replied.get() == 121_506);
     assert!(rt; gate.others.get() == 0);
 }

@@ -4,7 +4,7 @@ use Rattle.kc_audit.specs.Runs.{history_of}
 use Rattle.kc_audit.proofs.MoveLemmas.{no_line, members_at, levels_next, length-history}
 use Rattle.kc_audit.proofs.Walking.{all_at_start, all_go_on, all_within, all_pass, all_stay, told_verdict}
 use Rattle.kc_audit.proofs.walk.walk.Goals as goal
-use Rattle.kc_audit.proofs.walk.walk.Goals.{then-show, else-show, then-loop-waits-test+else-point-len, else-loop-waits-test}
+use Rattle.kc_audit.proofs.walk.walk.Goals.{then-move_members, else-move_members, then-loop-waits-test+else-point-len, else-loop-waits-test}
 
 pub loop-waits-init : goal.loop-waits-init
 loop-waits-init c =
@@ -22,8 +22,8 @@ loop-waits-init c =
       none = rw c.as_slice-readers.ensures at c.advance-waits.ensures.none;
     }
 
-pub show-requires-clause-below : goal.show-requires-clause-below
-show-requires-clause-below c =
+pub move_members-requires-clause-below : goal.move_members-requires-clause-below
+move_members-requires-clause-below c =
     let lt : c.loop-waits.point < length c.args.run.now.groups = omega (arith, c.if-point-len.true, c.len.ensures) in
     let n : length c.loop-waits.levels ≡ c.args.run.now.vertices = c.loop-waits.auto.levels ∙ (ap (λ (xs : List ℕ). length xs) c.requires.levels ∙ length-replicate {A = ℕ} c.args.run.now.vertices 0) in
     rw (members_at c.args.run.now.groups c.loop-waits.point c.members.result.now lt c.members.ensures, n) (c.requires.run.members c.loop-waits.point no_line lt)
@@ -38,25 +38,25 @@ loop-waits-preserved c =
     let old = c.loop-waits.invariant in
     let lt : p < length groups = omega (arith, c.if-point-len.true, c.len.ensures) in
     let members = members_at groups p c.members.result.now lt c.members.ensures in
-    let levels = rw (old.levels, members, sym (levels_next n groups p no_line lt)) at c.show.ensures.levels in
-    elim c.if-show.branch [
-      | then-show w ↦
-          let passed = w.advance-waits-then-show.new.passed in
-          let on = rw c.as_slice-readers.ensures at w.advance-waits-then-show.ensures.passed in
-          let sized : length passed ≡ length readers = w.advance-waits-then-show.auto.passed ∙ old.within.sized in
+    let levels = rw (old.levels, members, sym (levels_next n groups p no_line lt)) at c.move_members.ensures.levels in
+    elim c.if-move_members.branch [
+      | then-move_members w ↦
+          let passed = w.advance-waits-then-move_members.new.passed in
+          let on = rw c.as_slice-readers.ensures at w.advance-waits-then-move_members.ensures.passed in
+          let sized : length passed ≡ length readers = w.advance-waits-then-move_members.auto.passed ∙ old.within.sized in
           record {
             point = omega (arith, lt);
             levels = levels;
-            within = rw w.passed-is (all_within readers c.show.new.levels c.loop-waits.passed passed sized on);
-            stuck = rw w.passed-is (all_go_on n history readers c.show.new.levels c.loop-waits.passed passed (p + 1) (all_pass n history readers c.loop-waits.passed p old.stuck) (omega (arith, lt, length-history groups)) levels on);
-            awaited = rw (w.passed-is, w.awaited-is) (rw c.as_slice-readers.ensures at w.advance-waits-then-show.ensures.awaited);
-            none = rw (w.waits-is, w.passed-is) (rw c.as_slice-readers.ensures at w.advance-waits-then-show.ensures.none);
+            within = rw w.passed-is (all_within readers c.move_members.new.levels c.loop-waits.passed passed sized on);
+            stuck = rw w.passed-is (all_go_on n history readers c.move_members.new.levels c.loop-waits.passed passed (p + 1) (all_pass n history readers c.loop-waits.passed p old.stuck) (omega (arith, lt, length-history groups)) levels on);
+            awaited = rw (w.passed-is, w.awaited-is) (rw c.as_slice-readers.ensures at w.advance-waits-then-move_members.ensures.awaited);
+            none = rw (w.waits-is, w.passed-is) (rw c.as_slice-readers.ensures at w.advance-waits-then-move_members.ensures.none);
           }
-      | else-show w ↦ record {
+      | else-move_members w ↦ record {
         point = omega (arith, lt);
         levels = levels;
         within = rw w.passed-is old.within;
-        stuck = rw w.passed-is (all_stay n groups readers c.loop-waits.passed c.loop-waits.awaited no_line p old.stuck old.awaited lt (rw members at (c.show.ensures.unmet w.if-show.false)));
+        stuck = rw w.passed-is (all_stay n groups readers c.loop-waits.passed c.loop-waits.awaited no_line p old.stuck old.awaited lt (rw members at (c.move_members.ensures.unmet w.if-move_members.false)));
         awaited = rw (w.passed-is, w.awaited-is) old.awaited;
         none = rw (w.waits-is, w.passed-is) old.none;
       }

@@ -5,7 +5,7 @@ use Rattle.std.proofs.lemmas.Bool.{or_parts}
 use Rattle.kc_history.specs.declared.replies.Reply.{Reply}
 use Rattle.kc_audit.specs.private.Walks.{no_reply}
 use Rattle.kc_audit.proofs.MoveLemmas.{moves_more}
-use Rattle.kc_audit.proofs.walk.show.Goals as goal
+use Rattle.kc_audit.proofs.walk.move_members.Goals as goal
 
 pub loop-member-preserved : goal.loop-member-preserved
 loop-member-preserved c =

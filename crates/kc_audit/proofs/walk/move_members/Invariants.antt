@@ -2,7 +2,7 @@ use Rattle.std.proofs.Common.{◌≡◌, drop, false, take, get_or}
 use Rattle.std.specs.Prelude.{All}
 use Rattle.kc_history.specs.Points.{with_moves}
 use Rattle.kc_audit.specs.Runs.{moves_of}
-use Rattle.kc_audit.proofs.walk.show.Given as goal
+use Rattle.kc_audit.proofs.walk.move_members.Given as goal
 
 abbrev pub invariant-loop-member : goal.invariant-loop-member
 invariant-loop-member l = record {
