@@ -1,5 +1,5 @@
 -- Each batch of lines keeps its ranges.
-use Rattle.std.proofs.Common.{ℕ, ◌≡◌, ◌≤◌, Bool, true, false, List, [], ◌∷◌, ◌++◌, nat_le, length, refl, arith}
+use Rattle.std.proofs.Common.{ℕ, ◌≡◌, Bool, true, false, List, [], ◌∷◌, ◌++◌, nat_le, length, refl, arith}
 use Rattle.std.specs.Prelude.{All, Option, None, Some, IfSome, if◌then◌else◌}
 use Rattle.std.proofs.lemmas.Bool.Decides.{nat_tests}
 use Rattle.std.proofs.lemmas.List.{length_push}
@@ -16,6 +16,7 @@ use Rattle.kc_batch.specs.declared.turn.Turn.{Turn}
 use Rattle.kc_batch.specs.declared.turn.Turn.TheVariants.{Add, Close, Pass, Stop}
 use Rattle.kc_batch.specs.declared.batch.Next.{Next}
 use Rattle.kc_batch.specs.Turns.{is_inside, is_allowed, turn_of}
+use Rattle.kc_batch.specs.private.Adding.{AreItems}
 use Rattle.kc_batch.specs.private.Turns.{IsTurn}
 use Rattle.kc_batch.specs.Batches.{Place, Between, Within, Passing, Over, step_between, step_within, step_passing, step, before, batches_from, IsNext}
 use Rattle.kc_batch.specs.RangeLaw.{BatchesKeepRanges}
@@ -41,10 +42,20 @@ turn_is rules full kind.TooLong = tt
 turn_is rules full kind.Limit = tt
 turn_is rules full kind.InputEnd = tt
 
+pub no_items : (rules : Rules) → AreItems rules []
+no_items rules = record { few = omega arith; inside = All-nil (IsInside rules.n); allowed = All-nil (λ item. is_allowed rules.profile item ≡ true) }
+
+pub one_more : (rules : Rules) (items : List Item) (item : Item) (full : Bool) → full ≡ nat_le rules.item_limit (length items) → AreItems rules items → IsTurn rules full (Add item) → AreItems rules (items ++ item ∷ [])
+one_more rules items item full f p i = record {
+  few = grind (arith, nat_tests, length_push items item, p.few, i.1);
+  inside = All-push (IsInside rules.n) items item p.inside i.0.inside;
+  allowed = All-push (λ item. is_allowed rules.profile item ≡ true) items item p.allowed i.0.allowed;
+}
+
 -- the facts that hold of a place
 abbrev IsPlace : Rules → Place → Type 0
 IsPlace rules Between = Unit {0}
-IsPlace rules (Within items) = (length items ≤ rules.item_limit) × All (IsInside rules.n) items × All (λ item. is_allowed rules.profile item ≡ true) items
+IsPlace rules (Within items) = AreItems rules items
 IsPlace rules Passing = Unit {0}
 IsPlace rules Over = Unit {0}
 
@@ -53,7 +64,7 @@ abbrev IsStep : Rules → Place × Option Next → Type 0
 IsStep rules s = IsPlace rules s.0 × IfSome s.1 (IsNext rules)
 
 between_keeps : (rules : Rules) (line : ℕ) (k : Kind) → IsStep rules (step_between line k)
-between_keeps rules line kind.BatchStart = ((omega arith, All-nil (IsInside rules.n), All-nil (λ item. is_allowed rules.profile item ≡ true)), tt)
+between_keeps rules line kind.BatchStart = (no_items rules, tt)
 between_keeps rules line kind.BatchEnd = (tt, tt)
 between_keeps rules line (kind.Item item) = (tt, tt)
 between_keeps rules line kind.Other = (tt, tt)
@@ -70,12 +81,9 @@ passing_keeps rules line kind.TooLong = (tt, tt)
 passing_keeps rules line kind.Limit = (tt, tt)
 passing_keeps rules line kind.InputEnd = (tt, tt)
 
-one_more : (rules : Rules) (items : List Item) (item : Item) → IsPlace rules (Within items) → IsTurn rules (nat_le rules.item_limit (length items)) (Add item) → IsPlace rules (Within (items ++ item ∷ []))
-one_more rules items item p i = (grind (arith, nat_tests, length_push items item, p.0, i.1), All-push (IsInside rules.n) items item p.1 i.0.inside, All-push (λ item. is_allowed rules.profile item ≡ true) items item p.2 i.0.allowed)
-
 within_keeps : (rules : Rules) (items : List Item) (line : ℕ) (turn : Turn) → IsPlace rules (Within items) → IsTurn rules (nat_le rules.item_limit (length items)) turn → IsStep rules (step_within items line turn)
-within_keeps rules items line (Add item) p i = (one_more rules items item p i, tt)
-within_keeps rules items line Close p i = (tt, record { few = p.0; inside = p.1; allowed = p.2 })
+within_keeps rules items line (Add item) p i = (one_more rules items item _ refl p i, tt)
+within_keeps rules items line Close p i = (tt, record { few = p.few; inside = p.inside; allowed = p.allowed })
 within_keeps rules items line (Pass reason) p i = (tt, i)
 within_keeps rules items line (Stop reason) p i = (tt, i)
 

@@ -1,4 +1,5 @@
 -- Words of private contracts and loop invariants: no public contract needs them.
+pub mod Adding
 pub mod Ahead
 pub mod Tokens
 pub mod Turns

@@ -5,6 +5,7 @@ ghost use Rattle.kc_text.specs.Reading.{budget};
 ghost use Rattle.kc_batch.specs.Tokens.{tokens_left};
 
 use crate::Items;
+use crate::adding::add_items;
 use crate::ahead::Ahead;
 use crate::await_fault::AwaitFault;
 use crate::rules::Rules;
@@ -94,6 +95,9 @@ fn read_items<S: Source, K: Sink>(
         ..
     } = ahead;
     loop {
+        if let Err(e) = add_items(reader, rules, &mut items) {
+            return Err(AwaitFault::Memory(e));
+        }
         let token = next_token(alloc, reader, src, sink)?;
         let line = token.number;
         match turn_at(rules, items.len() >= rules.item_limit as usize, token.kind) {

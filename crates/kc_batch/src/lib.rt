@@ -6,6 +6,7 @@
 //! then `Batches` of `specs/`.
 #![tactic(auto)]
 
+mod adding;
 mod ahead;
 mod ask;
 mod await_fault;

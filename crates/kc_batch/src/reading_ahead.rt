@@ -5,10 +5,10 @@ ghost use Rattle.kc_batch.specs.Batches.{Within, batches_left};
 ghost use Rattle.kc_batch.specs.Ahead.{place_of, batches_at, batches_ahead, ahead_budget, with_begun};
 
 use crate::Items;
+use crate::adding::add_items;
 use crate::ahead::Ahead;
 use crate::rules::Rules;
-use crate::token::{Kind, classify, item_of};
-use crate::turn::{Turn, turn_at};
+use crate::token::{Kind, classify};
 use kc_text::LineReader;
 use std::alloc::{AllocError, Global};
 
@@ -44,14 +44,7 @@ fn take_items(alloc: Global, reader: &mut LineReader, rules: Rules) -> Result<Ah
     ensures budget { budget reader.new ≤ budget reader.old }
 {
     let mut items = Items::new(alloc);
-    while let Some(line) = reader.number_line() {
-        let full = items.len() >= rules.item_limit as usize;
-        let Turn::Add(item) = turn_at(rules, full, Kind::Item(item_of(line))) else {
-            break;
-        };
-        reader.pass_line(line.len);
-        items.push(item)?;
-    }
+    add_items(reader, rules, &mut items)?;
     Ok(Ahead {
         rules,
         begun: true,

@@ -1,8 +1,9 @@
 -- Steps of a number that is read where it stands in a line.
-use Rattle.std.proofs.Common.{ℕ, ◌+◌, ◌-◌, ◌*◌, ◌^◌, ◌<◌, ◌≤◌, ◌≡◌, true, false, List, [], ◌∷◌, ◌++◌, length, drop, refl, subst, ◌∙◌, arith, get_or}
+use Rattle.std.proofs.Common.{ℕ, zero, suc, ◌+◌, ◌-◌, ◌*◌, ◌^◌, ◌<◌, ◌≤◌, ◌≡◌, true, false, List, [], ◌∷◌, ◌++◌, length, drop, refl, subst, ◌∙◌, arith, add-one, get_or}
 use Rattle.std.specs.Prelude.{Some}
 use Rattle.std.specs.List.{list_all, slice_range}
 use Rattle.std.proofs.lemmas.Bool.Decides.{nat_tests}
+use Rattle.std.proofs.Math.Nat.{pow-succ'}
 use Rattle.std.proofs.lemmas.List.{length-take, length-drop}
 use Rattle.std.proofs.lemmas.List.Folds.{list_all-append}
 use Rattle.kc_text.specs.Numbers.{is_digit, value_from, number_of, NumberAt}
@@ -49,6 +50,23 @@ pub count_digit : (line : List ℕ) (start value count more : ℕ) → DigitsAt 
 count_digit line start value count more d l e m =
     let next : start + count + 1 ≡ start + (count + 1) = omega arith in
     subst (λ k. DigitsAt line start more k) next (more_digits line start value (start + count) more d l e m)
+
+-- a value of so many digits, and of one digit more
+ten_rises : (k c : ℕ) → 10 ^ c ≤ 10 ^ (k + c)
+ten_rises zero c = let z : zero + c ≡ c = omega arith in rw z (omega arith)
+ten_rises (suc k) c = let s : suc k + c ≡ suc (k + c) = omega arith in rw s (omega (arith, pow-succ' 10 (k + c), ten_rises k c))
+
+pub near_value : (v c : ℕ) → v < 10 ^ c → c ≤ 8 → v < 10 ^ 8
+near_value v c h l =
+    let e : 8 - c + c ≡ 8 = omega arith in
+    let r : 10 ^ c ≤ 10 ^ 8 = subst (λ n. 10 ^ c ≤ 10 ^ n) e (ten_rises (8 - c) c) in
+    omega arith
+
+pub next_value : (v c d : ℕ) → v < 10 ^ c → d < 10 → 10 * v + d < 10 ^ (c + 1)
+next_value v c d h e = let p : 10 ^ (c + 1) ≡ 10 * 10 ^ c = rw add-one (pow-succ' 10 c) in omega arith
+
+pub next_near : (v c d : ℕ) → v < 10 ^ c → c < 8 → d < 10 → 10 * v + d < 10 ^ 8
+next_near v c d h l e = near_value _ (c + 1) (next_value v c d h e) (omega arith)
 
 pub number_is : (bs : List ℕ) (value : ℕ) → 0 < length bs → length bs ≤ 10 → list_all is_digit bs ≡ true → value_from 0 bs ≡ value → value < 2 ^ 32 → number_of bs ≡ Some value
 number_is bs value a b d e s = grind (arith, nat_tests)

@@ -1,5 +1,5 @@
 //! Decimal numbers below 2^32: the number in a word, and the next number of a line.
-ghost use Rattle.std.specs.Prelude.{◌≡◌, ◌<◌, ◌≤◌, length, drop, slice_index, true, IfSome, IfNone};
+ghost use Rattle.std.specs.Prelude.{◌≡◌, ◌<◌, ◌≤◌, ◌+◌, ◌-◌, ◌^◌, nat_lt, length, drop, slice_index, true, IfSome, IfNone};
 ghost use Rattle.kc_text.specs.Numbers.{number_of, is_digit, NumberAt, IsNoNumber};
 ghost use Rattle.kc_text.specs.private.Numbers.{DigitsAt, StopsAt, HasNoNumber};
 ghost use Rattle.kc_text.specs.Words.{words};
@@ -34,9 +34,42 @@ fn is_digit(byte: u8) -> bool
     byte >= b'0' && byte <= b'9'
 }
 
-// The number of digits that the first loop reads: as many as the greatest vertex has. No value of so few digits is too
-// large, and the compiler unrolls a loop of fixed length. A shorter number ends within the loop.
-const NEAR: usize = 8;
+// Returns the value of a digit. For any other byte returns 10 or more.
+#[inline(always)]
+fn digit_of(byte: u8) -> u32
+    ensures digit { result < 10 → result ≡ byte - 48 }
+    ensures test { is_digit byte ≡ nat_lt result 10 }
+{
+    (byte as u32).wrapping_sub(b'0' as u32)
+}
+
+/// The most digits that [`near_digits`] reads: as many as the greatest vertex has. No value of so few digits is too
+/// large, and the compiler unrolls a loop of fixed length.
+pub(crate) const NEAR: usize = 8;
+
+// Returns the value of the first digits from `start` on, at most `NEAR` of them, and where they end. As many bytes
+// stand there, so no byte is tested for the end of the line.
+#[inline(always)]
+#[tactic(auto, using(crate::proofs::Numbering::digit_steps))]
+pub(crate) fn near_digits(line: &[u8], start: usize) -> (u32, usize)
+    requires { start + 8 ≤ length line.now }
+    ensures digits { DigitsAt line.now start result.0 result.1 }
+    ensures small { result.0 < 10 ^ 8 }
+    ensures near { result.1 ≤ start + 8 }
+    ensures stop { result.1 < start + 8 → StopsAt line.now result.1 }
+{
+    let mut value = 0;
+    let mut count = 0;
+    while count < NEAR {
+        let digit = digit_of(line[start + count]);
+        if digit >= 10 {
+            return (value, start + count);
+        }
+        value = 10 * value + digit;
+        count += 1;
+    }
+    (value, start + NEAR)
+}
 
 // Returns the value of the digits from `start` on, and where they end. The digits before `from` have the value `value`.
 // Returns None if the value is too large.
@@ -75,20 +108,11 @@ pub(crate) fn pass_digits(line: &[u8], start: usize) -> Option<(u32, usize)>
     if line.len() - start < NEAR {
         return pass_more_digits(line, start, 0, start);
     }
-    let mut value: u64 = 0;
-    let mut count = 0;
-    while count < NEAR {
-        let byte = line[start + count];
-        if !is_digit(byte) {
-            return Some((value as u32, start + count));
-        }
-        value = 10 * value + (byte - b'0') as u64;
-        if value >= 1 << 32 {
-            return None;
-        }
-        count += 1;
+    let (value, end) = near_digits(line, start);
+    if end < start + NEAR {
+        return Some((value, end));
     }
-    pass_more_digits(line, start, value as u32, start + NEAR)
+    pass_more_digits(line, start, value, end)
 }
 
 // Returns the number of a word of digits that begins at `start`, and where the word ends.

@@ -1,11 +1,11 @@
-//! Lines of two numbers, read in one pass over their bytes.
+//! Lines of two numbers, read where they lie.
 ghost use Rattle.std.specs.Prelude.{◌≡◌, ◌≤◌, ◌+◌, ℕ, ◌∷◌, true, Option, length, IfSome, IfNone};
 ghost use Rattle.kc_text.specs.Printing.{is_word};
 ghost use Rattle.kc_text.specs.NumberLines.{BeginsWithName};
 ghost use Rattle.kc_text.specs.private.Numbers.{DigitsTo, StopsAt, HasNoNumber};
 ghost use Rattle.kc_text.specs.private.NumberLines.{sign_of, front_of, BeginsAt, ClosesAt, NumbersTo, HaveNoNumbers, IsNumberLine, HaveNoNumberLine, IsNamedLine, HaveNoNamedLine};
 
-use crate::number::pass_digits;
+use crate::number::{NEAR, near_digits, pass_digits};
 use crate::word::parts_words;
 
 /// A sign before two numbers.
@@ -107,29 +107,74 @@ fn pass_cr(bytes: &[u8], end: usize) -> Option<usize>
 
 // Returns the two numbers that make up the line from `start` on, with one blank between them, and the place of the line
 // feed.
-#[inline(always)]
+#[cold]
+#[inline(never)]
 #[tactic(auto, using(crate::proofs::NumberLines::number_steps))]
-fn numbers_to(bytes: &[u8], start: usize) -> Option<(u32, u32, usize)>
+fn any_numbers(bytes: &[u8], start: usize) -> Option<(u32, u32, usize)>
     requires { start ≤ length bytes.now }
     ensures numbers { IfSome result (λ r. NumbersTo bytes.now start r.0 r.1 r.2) }
     ensures none { IfNone result (HaveNoNumbers bytes.now start) }
 {
-    let Some((first, middle)) = digits_to(bytes, start) else {
-        return None;
-    };
+    let (first, middle) = digits_to(bytes, start)?;
     if middle == bytes.len() {
         return None;
     }
     if !parts_words(bytes[middle]) {
         return None;
     }
-    let Some((second, end)) = digits_to(bytes, middle + 1) else {
-        return None;
-    };
-    let Some(len) = pass_cr(bytes, end) else {
-        return None;
-    };
+    let (second, end) = digits_to(bytes, middle + 1)?;
+    let len = pass_cr(bytes, end)?;
     Some((first, second, len))
+}
+
+// The most bytes of two numbers of `NEAR` digits, a blank between them and a line's end.
+const NEAR_LINE: usize = 2 * NEAR + 3;
+
+// Returns a number of at most `NEAR` digits at `start`, and where it ends. Returns None if there is no digit.
+#[inline(always)]
+fn near_number(bytes: &[u8], start: usize) -> Option<(u32, usize)>
+    requires { start + 8 ≤ length bytes.now }
+    ensures digits { IfSome result (λ r. DigitsTo bytes.now start r.0 r.1) }
+    ensures near { IfSome result (λ r. r.1 ≤ start + 8) }
+{
+    let (value, end) = near_digits(bytes, start);
+    if end == start {
+        return None;
+    }
+    Some((value, end))
+}
+
+// Returns what `any_numbers` does if both numbers have at most `NEAR` digits, and otherwise None. As many bytes as such
+// a line has stand from `start` on, so no byte is tested for the end of the bytes.
+#[inline(always)]
+#[tactic(auto, using(crate::proofs::NumberLines::number_steps))]
+fn near_numbers(bytes: &[u8], start: usize) -> Option<(u32, u32, usize)>
+    requires { start + 19 ≤ length bytes.now }
+    ensures { IfSome result (λ r. NumbersTo bytes.now start r.0 r.1 r.2) }
+{
+    let (first, middle) = near_number(bytes, start)?;
+    if !parts_words(bytes[middle]) {
+        return None;
+    }
+    let (second, end) = near_number(bytes, middle + 1)?;
+    let len = pass_cr(bytes, end)?;
+    Some((first, second, len))
+}
+
+// Returns the two numbers that make up the line from `start` on, with one blank between them, and the place of the line
+// feed. Most numbers are short and most lines aren't the last that were read, so that case is tried first.
+#[inline(always)]
+fn numbers_to(bytes: &[u8], start: usize) -> Option<(u32, u32, usize)>
+    requires { start ≤ length bytes.now }
+    ensures numbers { IfSome result (λ r. NumbersTo bytes.now start r.0 r.1 r.2) }
+    ensures none { IfNone result (HaveNoNumbers bytes.now start) }
+{
+    if bytes.len() - start >= NEAR_LINE {
+        if let Some(found) = near_numbers(bytes, start) {
+            return Some(found);
+        }
+    }
+    any_numbers(bytes, start)
 }
 
 // Returns the first line of the bytes if its line feed is among them and it is two numbers with one blank between them.
@@ -139,12 +184,8 @@ pub(crate) fn number_line(bytes: &[u8]) -> Option<NumberLine>
     ensures line { IfSome result (λ line. IsNumberLine bytes.now line) }
     ensures none { IfNone result (HaveNoNumberLine bytes.now) }
 {
-    let Some((sign, start)) = pass_sign(bytes) else {
-        return None;
-    };
-    let Some((first, second, len)) = numbers_to(bytes, start) else {
-        return None;
-    };
+    let (sign, start) = pass_sign(bytes)?;
+    let (first, second, len) = numbers_to(bytes, start)?;
     Some(NumberLine {
         sign,
         first,
@@ -180,11 +221,7 @@ pub(crate) fn numbers_after(bytes: &[u8], name: &[u8]) -> Option<NamedNumbers>
     ensures line { IfSome result (λ line. IsNamedLine bytes.now name.now line) }
     ensures none { IfNone result (HaveNoNamedLine bytes.now name.now) }
 {
-    let Some(start) = pass_name(bytes, name) else {
-        return None;
-    };
-    let Some((first, second, len)) = numbers_to(bytes, start) else {
-        return None;
-    };
+    let start = pass_name(bytes, name)?;
+    let (first, second, len) = numbers_to(bytes, start)?;
     Some(NamedNumbers { first, second, len })
 }

@@ -147,7 +147,7 @@ impl LineReader {
     /// between them. A sign and a blank or tab may stand before the numbers. The line lies whole as for `whole_line`.
     ///
     /// Returns None only if there is no such line. `pass_line` takes the line. Cost: one pass over the bytes of the
-    /// line.
+    /// line, or two if a number has more than 8 digits.
     #[inline(always)]
     pub fn number_line(&self) -> Option<NumberLine>
         ensures whole { IfSome result (λ line. HasWhole line.len self.now) }
@@ -165,7 +165,8 @@ impl LineReader {
     /// for `whole_line`.
     ///
     /// Returns None only if there is no such line. `pass_line` takes the line. Cost: one pass over the bytes of the
-    /// line; for a line that begins with another word, the bytes of the name.
+    /// line, or two if a number has more than 8 digits. For a line that begins with another word, the bytes of the
+    /// name.
     #[inline(always)]
     pub fn numbers_after(&self, name: &[u8]) -> Option<NamedNumbers>
         requires { is_word name.now ≡ true }
