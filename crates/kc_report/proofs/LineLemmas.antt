@@ -1,5 +1,6 @@
 -- Lines as they are put together, and as their definitions have them.
-use Rattle.std.proofs.Common.{ℕ, ◌≡◌, List, [], ◌∷◌, ◌++◌, length, refl, sym, ap, ◌∙◌, append_assoc, subst}
+use Rattle.std.proofs.Common.{ℕ, ◌≡◌, ◌<◌, ◌≤◌, ◌^◌, List, [], ◌∷◌, ◌++◌, length, refl, sym, ap, ◌∙◌, append_assoc, length-append, arith, subst}
+use Rattle.std.proofs.lemmas.Fmt.{length-decimal-le}
 use Rattle.std.specs.Prelude.{Option, Result, Ok, Err, decimal, codes}
 use Rattle.std.specs.List.{join_with_byte}
 use Rattle.std.specs.Io.KnownBytes.{append_known}
@@ -47,10 +48,19 @@ pub level_filled : (level : ℕ) (e : Estimate) (old a b : List ℕ) → old ≡
     → b ≡ a ++ codes " up " → b ≡ level_words level e
 level_filled level e old a b z ea eb = rw (eb, ea, z) (simp append_assoc)
 
+-- no number of 32 bits has more than 10 digits
+pub short : (n : ℕ) → n < 2 ^ 32 → length (decimal n) ≤ 10
+short n h = length-decimal-le 10 n (omega arith) (omega arith) (omega arith)
+
+-- the words of a level have at most 62 bytes
+pub level_short : (level : ℕ) (e : Estimate) (words : List ℕ) → level < 2 ^ 16 → e.est < 2 ^ 32 → e.lo < 2 ^ 32 → e.hi < 2 ^ 32 → words ≡ level_words level e → length words ≤ 62
+level_short level e words h a b c ew =
+    rw ew (simp length-append (omega (arith, length-decimal-le 5 level (omega arith) (omega arith) (omega arith), short e.est a, short e.lo b, short e.hi c)))
+
 -- a vertex line, put together from the words of its level after other lines
-pub counted_filled : (v level up down : ℕ) (e : Estimate) (old a b c d f words : List ℕ) → a ≡ (old ++ codes "vertex ") ++ decimal v
-    → words ≡ level_words level e → b ≡ a ++ words → c ≡ b ++ decimal up → d ≡ (c ++ codes " down ") ++ decimal down → f ≡ d ++ 10 ∷ [] → f ≡ old ++ vertex_line v level e up down
-counted_filled v level up down e old a b c d f words ea ew eb ec ed ef = rw (ef, ed, ec, eb, ew, ea) (simp append_assoc)
+pub counted_filled : (v level up down : ℕ) (e : Estimate) (old words new : List ℕ) → words ≡ level_words level e
+    → new ≡ old ++ (codes "vertex " ++ (decimal v ++ (words ++ (decimal up ++ (codes " down " ++ (decimal down ++ 10 ∷ [])))))) → new ≡ old ++ vertex_line v level e up down
+counted_filled v level up down e old words new ew en = rw (en, ew) (simp append_assoc)
 
 counts_filled : (number : ℕ) (c : Cleaned) (old a tail : List ℕ) → old ≡ []
     → a ≡ (((((((old ++ codes "batch ") ++ decimal number) ++ codes " loops ") ++ decimal c.loops) ++ codes " repeats ") ++ decimal c.repeats) ++ codes " idle ") ++ decimal c.idle

@@ -1,7 +1,7 @@
 //! The words of vertex lines that a level decides. They are composed once for each level.
 ghost use Rattle.std.specs.Prelude.{◌≡◌, ℕ, ◌<◌, ◌≤◌, ◌++◌, IfOk, OnOk, length, slice_index, decimal, codes};
 ghost use Rattle.kc_levels.specs.Thresholds.{top_level};
-ghost use Rattle.kc_report.specs.private.LevelWords.{level_words, AreLevelWords};
+ghost use Rattle.kc_report.specs.private.LevelWords.{level_words, AreLevelWords, AreShort};
 
 use kc_levels::{Estimate, Thresholds};
 use kc_text::LineBuf;
@@ -22,7 +22,8 @@ pub fn fill_bounds(buf: &mut LineBuf, level: u16, estimate: Estimate) -> Result<
 
 // Composes the words of a level, from its name to the name of the count after them.
 fn fill_level(buf: &mut LineBuf, level: u16, estimate: Estimate) -> Result<(), AllocError>
-    ensures { OnOk result (buf.new ≡ level_words level estimate) }
+    ensures words { OnOk result (buf.new ≡ level_words level estimate) }
+    ensures short { OnOk result (length buf.new ≤ 62) }
 {
     buf.clear();
     fill_bounds(buf, level, estimate)?;
@@ -37,8 +38,10 @@ fn compose_up_to(
     level: u16,
 ) -> Result<(), AllocError>
     requires words { AreLevelWords th.now.profile th.now.vertices words.old.items }
+    requires short { AreShort words.old.items }
     requires within { level ≤ top_level th.now.profile th.now.vertices }
     ensures words { OnOk result (AreLevelWords th.now.profile th.now.vertices words.new.items) }
+    ensures short { OnOk result (AreShort words.new.items) }
     ensures reached { OnOk result (level < length words.new.items) }
     ensures kept { OnOk result (length words.old.items ≤ length words.new.items) }
 {
@@ -62,6 +65,7 @@ pub fn compose_words(
 ) -> Result<Vec<LineBuf>, AllocError>
     requires { (v : ℕ) → v < length levels.now → slice_index levels.now v ≤ top_level th.now.profile th.now.vertices }
     ensures words { IfOk result (λ w. AreLevelWords th.now.profile th.now.vertices w.items) }
+    ensures short { IfOk result (λ w. AreShort w.items) }
     ensures enough { IfOk result (λ w. (v : ℕ) → v < length levels.now → slice_index levels.now v < length w.items) }
 {
     let mut words = Vec::new(alloc);

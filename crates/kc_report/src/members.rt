@@ -1,10 +1,10 @@
 //! The members of a group: the words of its moves, composed by one thread or by several.
-ghost use Rattle.std.specs.Prelude.{◌≡◌, ◌∷◌, ◌++◌, ◌<◌, OnOk, IfOk};
+ghost use Rattle.std.specs.Prelude.{◌≡◌, ◌≤◌, ◌<◌, ◌∷◌, ◌++◌, OnOk, IfOk, length, drop};
 ghost use Rattle.std.specs.List.{flat_map};
 ghost use Rattle.std.specs.Thread.{IsSync};
 ghost use Rattle.kc_report.specs.Lines.{member_word};
 
-use crate::pairs::put_pair;
+use crate::pairs::{LONGEST, write_pair};
 use kc_graph::Crew;
 use kc_history::Move;
 use kc_text::LineBuf;
@@ -23,11 +23,38 @@ pub trait Members {
         ensures { OnOk result (buf.new ≡ buf.old ++ flat_map (λ m. 32 ∷ member_word m) moves.now) };
 }
 
+// The number of members that are composed before they are appended. An append costs as much as a member.
+const TOGETHER: usize = 8;
+
+// The most bytes of these members.
+const ROOM: usize = TOGETHER * LONGEST;
+
+// Writes the members of a few moves so that they end where the array ends. Returns where they start.
+fn write_members(moves: &[Move], words: &mut [u8; ROOM]) -> usize
+    requires { length moves.now ≤ 8 }
+    ensures within { result ≤ 176 }
+    ensures written { drop result words.new ≡ flat_map (λ m. 32 ∷ member_word m) moves.now }
+{
+    let mut at = ROOM;
+    let mut left = moves.len();
+    while left > 0 {
+        left -= 1;
+        let m = &moves[left];
+        at = write_pair(m.vertex, b':', u32::from(m.new), words, at);
+    }
+    at
+}
+
 fn fill_members(buf: &mut LineBuf, moves: &[Move]) -> Result<(), AllocError>
     ensures { OnOk result (buf.new ≡ buf.old ++ flat_map (λ m. 32 ∷ member_word m) moves.now) }
 {
-    for m in moves {
-        put_pair(buf, m.vertex, b':', u32::from(m.new))?;
+    let mut words = [0; ROOM];
+    let mut rest = moves;
+    while !rest.is_empty() {
+        let (piece, later) = rest.split_at(rest.len().min(TOGETHER));
+        let start = write_members(piece, &mut words);
+        buf.put(&words[start..])?;
+        rest = later;
     }
     Ok(())
 }

@@ -1,12 +1,26 @@
 //! Two numbers with a byte between them, as in the lines of groups and readers.
-ghost use Rattle.std.specs.Prelude.{◌≡◌, ◌∷◌, ◌++◌, OnOk, decimal};
+ghost use Rattle.std.specs.Prelude.{◌≡◌, ◌+◌, ◌≤◌, ◌∷◌, ◌++◌, OnOk, length, drop, decimal};
 
 use itoa::write_digits;
 use kc_text::LineBuf;
 use std::alloc::AllocError;
 
-// The most bytes of two numbers, each with a byte before it.
-const LONGEST: usize = 22;
+/// The most bytes of two numbers, each with a byte before it.
+pub(crate) const LONGEST: usize = 22;
+
+/// Writes a blank, a number, a byte and a second number so that they end at `end`. Returns where they start.
+#[inline]
+pub fn write_pair(first: u32, between: u8, second: u32, words: &mut [u8], end: usize) -> usize
+    requires { (22 ≤ end) × (end ≤ length words.old) }
+    ensures start { (result ≤ end) × (end ≤ result + 22) }
+    ensures written { drop result words.new ≡ 32 ∷ (decimal first ++ between ∷ (decimal second ++ drop end words.old)) }
+{
+    let middle = write_digits(u64::from(second), words, end) - 1;
+    words[middle] = between;
+    let start = write_digits(u64::from(first), words, middle) - 1;
+    words[start] = b' ';
+    start
+}
 
 /// Appends a blank, a number, a byte and a second number. They are composed first, and cost one copy.
 ///
@@ -14,10 +28,7 @@ const LONGEST: usize = 22;
 pub fn put_pair(buf: &mut LineBuf, first: u32, between: u8, second: u32) -> Result<(), AllocError>
     ensures { OnOk result (buf.new ≡ buf.old ++ 32 ∷ (decimal first ++ between ∷ decimal second)) }
 {
-    let mut word = [0; LONGEST];
-    let middle = write_digits(u64::from(second), &mut word, LONGEST) - 1;
-    word[middle] = between;
-    let start = write_digits(u64::from(first), &mut word, middle) - 1;
-    word[start] = b' ';
-    buf.put(&word[start..])
+    let mut words = [0; LONGEST];
+    let start = write_pair(first, between, second, &mut words, LONGEST);
+    buf.put(&words[start..])
 }

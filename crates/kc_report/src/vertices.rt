@@ -1,15 +1,16 @@
 //! The line of a vertex in a run: its level, what the level says of its coreness, and two counts of neighbours.
-ghost use Rattle.std.specs.Prelude.{◌≡◌, ℕ, ◌<◌, [], ◌∷◌, ◌++◌, OnOk, length};
+ghost use Rattle.std.specs.Prelude.{◌≡◌, ℕ, ◌+◌, ◌<◌, ◌≤◌, [], ◌∷◌, ◌++◌, OnOk, length, drop, decimal};
 ghost use Rattle.kc_levels.specs.declared.profile.Profile.{Profile};
 ghost use Rattle.kc_text.specs.Writing.{Appends, WriteCause};
 ghost use Rattle.kc_report.specs.Buffer.{IsCleared};
 ghost use Rattle.kc_report.specs.Lines.{vertex_line};
 ghost use Rattle.kc_report.specs.VertexLines.{AreLevels, GivesCounts, tail_text};
-ghost use Rattle.kc_report.specs.private.LevelWords.{counted_line, AreLevelWords};
+ghost use Rattle.kc_report.specs.private.LevelWords.{counted_line, AreLevelWords, AreShort};
 
 use crate::head::put_end;
 use crate::held::send_held;
 use crate::level_words::{compose_words, fill_bounds};
+use itoa::write_digits;
 use kc_graph::Graph;
 use kc_levels::{Estimate, Thresholds};
 use kc_text::{LineBuf, SendFault, Sink};
@@ -67,20 +68,47 @@ pub fn write_vertex<K: Sink>(
     buf.send_to(sink)
 }
 
-// Appends the line of a vertex, with words that were composed for its level (`counted_line`).
+// Writes bytes so that they end at `end`. Returns where they start.
+fn write_bytes(bytes: &[u8], line: &mut [u8], end: usize) -> usize
+    requires { (length bytes.now ≤ end) × (end ≤ length line.old) }
+    ensures start { result + length bytes.now ≡ end }
+    ensures written { drop result line.new ≡ bytes.now ++ drop end line.old }
+{
+    let start = end - bytes.len();
+    line[start..end].copy_from_slice(bytes);
+    start
+}
+
+// Writes a name, with its blanks, and a number so that they end at `end`. Returns where they start.
+fn write_named(name: &[u8], value: u32, line: &mut [u8], end: usize) -> usize
+    requires { (length name.now + 10 ≤ end) × (end ≤ length line.old) }
+    ensures start { (result ≤ end) × (end ≤ result + (length name.now + 10)) }
+    ensures written { drop result line.new ≡ name.now ++ (decimal value ++ drop end line.old) }
+{
+    let middle = write_digits(u64::from(value), line, end);
+    write_bytes(name, line, middle)
+}
+
+// The most bytes of the line of a vertex.
+const LONGEST: usize = 106;
+
+// Appends the line of a vertex, with words that were composed for its level (`counted_line`). The line is composed
+// first, and costs one append.
 fn append_counted(
     buf: &mut LineBuf,
     words: &[LineBuf],
     counts: VertexCounts,
 ) -> Result<(), AllocError>
-    requires { counts.level < length words.now }
+    requires level { counts.level < length words.now }
+    requires short { AreShort words.now }
     ensures { (p : Profile) (n : ℕ) → AreLevelWords p n words.now → OnOk result (buf.new ≡ buf.old ++ counted_line p n counts) }
 {
-    buf.put_named(b"vertex ", counts.v)?;
-    buf.put(words[counts.level as usize].as_bytes())?;
-    buf.put_number(counts.up)?;
-    buf.put_named(b" down ", counts.down)?;
-    buf.put(b"\n")
+    let mut line = [b'\n'; LONGEST];
+    let down = write_named(b" down ", counts.down, &mut line, LONGEST - 1);
+    let up = write_digits(u64::from(counts.up), &mut line, down);
+    let level = write_bytes(words[counts.level as usize].as_bytes(), &mut line, up);
+    let start = write_named(b"vertex ", counts.v, &mut line, level);
+    buf.put(&line[start..])
 }
 
 // The bytes of lines from which on they are sent. A write for each line costs a fifth of the instructions of these

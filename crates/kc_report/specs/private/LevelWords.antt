@@ -1,5 +1,5 @@
 -- The words of a vertex line that a level decides.
-use Rattle.std.specs.Prelude.{ℕ, ◌≡◌, ◌<◌, List, [], ◌++◌, length, get_or, decimal, codes}
+use Rattle.std.specs.Prelude.{ℕ, ◌≡◌, ◌<◌, ◌≤◌, List, [], ◌++◌, length, get_or, decimal, codes}
 use Rattle.kc_levels.specs.declared.profile.Profile.{Profile}
 use Rattle.kc_levels.specs.declared.thresholds.Estimate.{Estimate}
 use Rattle.kc_report.specs.declared.vertices.VertexCounts.{VertexCounts}
@@ -15,6 +15,10 @@ level_words level e =
 -- the list at each place has the words of the level of that number
 abbrev pub AreLevelWords : Profile → ℕ → List (List ℕ) → Type 0
 AreLevelWords p n words = (level : ℕ) → level < length words → get_or words level [] ≡ level_words level (estimate_of p n level)
+
+-- the words of no level have more than 62 bytes
+abbrev pub AreShort : List (List ℕ) → Type 0
+AreShort words = (level : ℕ) → level < length words → length (get_or words level []) ≤ 62
 
 -- the line of a vertex with these counts, and what its level says of its coreness
 abbrev pub counted_line : Profile → ℕ → VertexCounts → List ℕ
