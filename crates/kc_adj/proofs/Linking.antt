@@ -1,5 +1,5 @@
 -- What an edge changes in the counts of its ends.
-use Rattle.std.proofs.Common.{ℕ, ◌+◌, ◌-◌, ◌≤◌, ◌<◌, ◌≡◌, ◌≢◌, inl, inr, true, false, cond, leb, List, ◌∷◌, length, get_or, set, drop, ap, sym, ◌∙◌, arith}
+use Rattle.std.proofs.Common.{ℕ, ◌+◌, ◌-◌, ◌≤◌, ◌<◌, ◌≡◌, ◌≢◌, inl, inr, true, false, cond, leb, List, ◌∷◌, length, get_or, set, drop, refl, ap, sym, ◌∙◌, arith}
 use Rattle.std.specs.Prelude.{count_by}
 use Rattle.std.proofs.lemmas.Bool.{cases_eq}
 use Rattle.std.proofs.lemmas.List.{length-set, get_or-set_same, get_or-set_other, drop_more}
@@ -81,11 +81,8 @@ module _ (g : GraphShape) (x : List ℕ) (a b : ℕ) (graph : IsGraph g) (order 
     fewer : (m c k y : ℕ) → m ≡ c → y + k ≡ c → m - y ≡ k
     fewer m c k y e f = omega arith
 
-    pub share_low : (d : ℕ) (counts : List ℕ) → IsCounted g x d counts → share x d a b ≤ get_or counts a 0
-    share_low d counts c = omega (arith, c.values a (omega arith), unlink_low (get_or x a 0 - d))
-
-    pub share_high : (d : ℕ) (counts : List ℕ) → IsCounted g x d counts → share x d b a ≤ get_or counts b 0
-    share_high d counts c = omega (arith, c.values b inside, unlink_high (get_or x b 0 - d))
+    pub shares : (d : ℕ) (counts : List ℕ) → IsCounted g x d counts → (share x d a b ≤ get_or counts a 0) × (share x d b a ≤ get_or counts b 0)
+    shares d counts c = (omega (arith, c.values a (omega arith), unlink_low (get_or x a 0 - d)), omega (arith, c.values b inside, unlink_high (get_or x b 0 - d)))
 
     pub counted_unlinked : (d : ℕ) (counts : List ℕ) → IsCounted g x d counts → IsCounted (without_edge g (a, b)) x d (unlinked x d a b counts)
     counted_unlinked d counts c = record {
@@ -101,10 +98,10 @@ module _ (g : GraphShape) (x own below : List ℕ) (a b : ℕ) (self : LeveledGr
   inside : b < g.vertices
   inside = rw (← self_is, ← e_is) at within
 
-  pub few_at : (d v : ℕ) (counts : List ℕ) → IsCounted g x d counts → v ≤ b → get_or counts v 0 < 2147483648
-  few_at d v counts c le =
-      let few : get_or counts v 0 < g.vertices = count-few g x d counts v adj.graph c (omega (arith, inside)) in
-      omega (arith, few, adj.small)
+  pub few_at : (d : ℕ) (counts : List ℕ) → IsCounted g x d counts → (get_or counts a 0 < 2147483648) × (get_or counts b 0 < 2147483648)
+  few_at d counts c =
+      let few : (v : ℕ) → v < g.vertices → get_or counts v 0 < g.vertices = λ v h. count-few g x d counts v adj.graph c h in
+      (omega (arith, few a (omega (arith, inside, order)), adj.small), omega (arith, few b inside, adj.small))
 
   pub adjacency_linked : has_edge e self.graph.edges ≡ false → (h : GraphShape) (own' below' : List ℕ) → h ≡ with_edge g (a, b) → own' ≡ linked x 0 a b own → below' ≡ linked x 1 a b below → IsAdjacency h x own' below'
   adjacency_linked absent h own' below' is is1 is2 =
@@ -121,11 +118,8 @@ module _ (g : GraphShape) (x own below : List ℕ) (a b : ℕ) (self : LeveledGr
     there : has_edge (a, b) g.edges ≡ true
     there = rw (← self_is, ← e_is) at present
 
-    pub low_at : (d : ℕ) (counts : List ℕ) → IsCounted g x d counts → share x d a b ≤ get_or counts a 0
-    low_at d counts c = share_low g x a b adj.graph order inside there d counts c
-
-    pub high_at : (d : ℕ) (counts : List ℕ) → IsCounted g x d counts → share x d b a ≤ get_or counts b 0
-    high_at d counts c = share_high g x a b adj.graph order inside there d counts c
+    pub shares_at : (d : ℕ) (counts : List ℕ) → IsCounted g x d counts → (share x d a b ≤ get_or counts a 0) × (share x d b a ≤ get_or counts b 0)
+    shares_at d counts c = shares g x a b adj.graph order inside there d counts c
 
     pub adjacency_unlinked : (h : GraphShape) (own' below' : List ℕ) → h ≡ without_edge g (a, b) → own' ≡ unlinked x 0 a b own → below' ≡ unlinked x 1 a b below → IsAdjacency h x own' below'
     adjacency_unlinked h own' below' is is1 is2 =
@@ -146,16 +140,14 @@ module _ (g : GraphShape) (x own below : List ℕ) (es : List Pair) (i : ℕ) (e
     s : AwaitsEdges g x own below (e ∷ drop (i + 1) es)
     s = rw rest_is at s'
 
-    awaited_few : (d v : ℕ) (counts : List ℕ) → IsCounted s.before x d counts → v ≤ e.1 → get_or counts v 0 < 2147483648
-    awaited_few d v counts c le =
-        let few : get_or counts v 0 < s.before.vertices = count-few s.before x d counts v s.counted.graph c (omega (arith, s.addable.0)) in
-        omega (arith, few, s.counted.small)
+    awaited_few : (d : ℕ) (counts : List ℕ) → IsCounted s.before x d counts → (get_or counts e.0 0 < 2147483648) × (get_or counts e.1 0 < 2147483648)
+    awaited_few d counts c = few_at s.before x own below e.0 e.1 (record { graph = s.before; levels = x }) e refl refl order s.addable.0 s.counted d counts c
 
-    pub awaited_own : (v : ℕ) → v ≤ e.1 → get_or own v 0 < 2147483648
-    awaited_own v le = awaited_few 0 v own s.counted.own_counts le
+    pub awaited_own : (get_or own e.0 0 < 2147483648) × (get_or own e.1 0 < 2147483648)
+    awaited_own = awaited_few 0 own s.counted.own_counts
 
-    pub awaited_below : (v : ℕ) → v ≤ e.1 → get_or below v 0 < 2147483648
-    awaited_below v le = awaited_few 1 v below s.counted.below_counts le
+    pub awaited_below : (get_or below e.0 0 < 2147483648) × (get_or below e.1 0 < 2147483648)
+    awaited_below = awaited_few 1 below s.counted.below_counts
 
     pub awaiting_next : (own' below' : List ℕ) → own' ≡ linked x 0 e.0 e.1 own → below' ≡ linked x 1 e.0 e.1 below → AwaitsEdges g x own' below' (drop (i + 1) es)
     awaiting_next own' below' is1 is2 = record {
@@ -175,17 +167,11 @@ module _ (g : GraphShape) (x own below : List ℕ) (es : List Pair) (i : ℕ) (e
     t : LosesEdges g x own below (e ∷ drop (i + 1) es)
     t = rw rest_is at s'
 
-    pub lost_own_low : share x 0 e.0 e.1 ≤ get_or own e.0 0
-    lost_own_low = share_low t.before x e.0 e.1 t.counted.graph order t.removable.0 t.removable.1 0 own t.counted.own_counts
+    pub lost_own : (share x 0 e.0 e.1 ≤ get_or own e.0 0) × (share x 0 e.1 e.0 ≤ get_or own e.1 0)
+    lost_own = shares t.before x e.0 e.1 t.counted.graph order t.removable.0 t.removable.1 0 own t.counted.own_counts
 
-    pub lost_own_high : share x 0 e.1 e.0 ≤ get_or own e.1 0
-    lost_own_high = share_high t.before x e.0 e.1 t.counted.graph order t.removable.0 t.removable.1 0 own t.counted.own_counts
-
-    pub lost_below_low : share x 1 e.0 e.1 ≤ get_or below e.0 0
-    lost_below_low = share_low t.before x e.0 e.1 t.counted.graph order t.removable.0 t.removable.1 1 below t.counted.below_counts
-
-    pub lost_below_high : share x 1 e.1 e.0 ≤ get_or below e.1 0
-    lost_below_high = share_high t.before x e.0 e.1 t.counted.graph order t.removable.0 t.removable.1 1 below t.counted.below_counts
+    pub lost_below : (share x 1 e.0 e.1 ≤ get_or below e.0 0) × (share x 1 e.1 e.0 ≤ get_or below e.1 0)
+    lost_below = shares t.before x e.0 e.1 t.counted.graph order t.removable.0 t.removable.1 1 below t.counted.below_counts
 
     pub losing_next : (own' below' : List ℕ) → own' ≡ unlinked x 0 e.0 e.1 own → below' ≡ unlinked x 1 e.0 e.1 below → LosesEdges g x own' below' (drop (i + 1) es)
     losing_next own' below' is1 is2 = record {

@@ -196,8 +196,7 @@ impl LevelAdj {
         ensures steps_kept { OnErr result (steps.new ≡ steps.old) }
     {
         self.graph.insert(alloc, e)?;
-        links::count_edge(&self.levels, &mut self.counts.own, 0, e.a, e.b);
-        links::count_edge(&self.levels, &mut self.counts.below, 1, e.a, e.b);
+        links::count_edge(&self.levels, &mut self.counts, e.a, e.b);
         steps.add_edges(1);
         Ok(())
     }
@@ -212,8 +211,7 @@ impl LevelAdj {
         ensures cost { steps.new ≡ steps.old + 3 }
     {
         self.graph.remove(e);
-        links::uncount_edge(&self.levels, &mut self.counts.own, 0, e.a, e.b);
-        links::uncount_edge(&self.levels, &mut self.counts.below, 1, e.a, e.b);
+        links::uncount_edge(&self.levels, &mut self.counts, e.a, e.b);
         steps.add_edges(1);
     }
 

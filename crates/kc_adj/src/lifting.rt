@@ -3,15 +3,16 @@
 //!
 //! `specs/private/Lifting` defines when each vertex gains.
 
-ghost use Rattle.std.specs.Prelude.{◌≡◌, ◌+◌, ◌-◌, ◌<◌, ◌^◌, ℕ, cond, true, length, slice_index, slice_set};
+ghost use Rattle.std.specs.Prelude.{◌≡◌, ◌+◌, ◌-◌, ◌<◌, ◌≤◌, ◌^◌, ℕ, cond, true, length, slice_index, slice_set};
 ghost use Rattle.kc_graph.specs.Numbers.{has_number};
+ghost use Rattle.kc_graph.specs.Shape.{IsGraph};
 ghost use Rattle.kc_levels.specs.LevelList.{at_least, IsBelow};
 ghost use Rattle.kc_adj.specs.LeveledGraph.{IsAdjacency};
 ghost use Rattle.kc_adj.specs.private.Lifting.{is_unmoved, gains, lift_cost, AreLifted, CanGain, HaveGained};
 
-use crate::counts::{Counts, as_one, gain, is_reached};
+use crate::counts::{Counts, as_one, gain};
 use crate::steps::Steps;
-use kc_graph::Graph;
+use kc_graph::{Graph, MAX_VERTICES};
 use kc_levels::Levels;
 use std::marker::Model;
 use std::sync::ledger::Ledger;
@@ -40,13 +41,13 @@ impl<'a> Model for Lift<'a> {
 impl<'a> Lift<'a> {
     /// Makes the lift from the levels `old` to `new`. No vertex is lower in `new`.
     pub fn new(graph: &'a Graph, old: &'a Levels, new: &'a Levels) -> Lift<'a>
+        requires graph { IsGraph graph.now }
+        requires small { graph.now.vertices ≤ MAX_VERTICES }
         requires before { length old.now ≡ graph.now.vertices }
         requires after { length new.now ≡ graph.now.vertices }
         requires over { IsBelow graph.now.vertices old.now new.now }
         ensures { result ≡ record { graph = graph.now; old = old.now; new = new.now } }
     {
-        // Evidence for the check: the edges of the graph ascend, and its vertices are at most `MAX_VERTICES`.
-        let _n = graph.vertices();
         Lift {
             graph,
             old: old.as_slice(),
@@ -56,8 +57,6 @@ impl<'a> Lift<'a> {
 }
 
 // Adds to both counts of w for a neighbour that goes up from level `from` to level `to`, unless w moves too.
-//
-// If `is_reached` is false, `lift.old` isn't loaded. `gain` tests it again.
 fn gain_unmoved(lift: &Lift<'_>, counts: &mut Counts, w: u32, from: u16, to: u16)
     requires vertex { w < lift.now.graph.vertices }
     requires own { w < length counts.old.own.items }
@@ -68,7 +67,7 @@ fn gain_unmoved(lift: &Lift<'_>, counts: &mut Counts, w: u32, from: u16, to: u16
     ensures below { counts.new.below.items ≡ slice_set counts.old.below.items w (slice_index counts.old.below.items w + gains lift.now from to 1 w) }
 {
     let level = lift.new[w as usize];
-    if is_reached(from, to, level) && lift.old[w as usize] == level {
+    if lift.old[w as usize] == level {
         gain(counts, w, from, to, level);
     }
 }

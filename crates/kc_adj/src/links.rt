@@ -4,52 +4,44 @@ ghost use Rattle.std.specs.Prelude.{◌≡◌, ◌<◌, ◌≤◌, ◌^◌, leng
 ghost use Rattle.kc_adj.specs.LeveledGraph.{IsAdjacency};
 ghost use Rattle.kc_adj.specs.private.Linking.{share, linked, unlinked, AwaitsEdges, LosesEdges};
 
-use crate::counts::Counts;
+use crate::counts::{Counts, as_one};
 use kc_graph::{Edge, Graph};
 use kc_levels::Levels;
 
-// Returns 1 if v counts w, else 0; v counts from `less` levels below its own on.
-fn share(levels: &Levels, less: u16, v: u32, w: u32) -> u32
-    requires first { v < length levels.now }
-    requires second { w < length levels.now }
-    ensures value { result ≡ share levels.now less v w }
-    ensures small { result ≤ 1 }
+/// Counts an edge between a and b that came in, in both counts of each end.
+pub fn count_edge(levels: &Levels, counts: &mut Counts, a: u32, b: u32)
+    requires order { a < b }
+    requires within { b < length levels.now }
+    requires own_sized { length counts.old.own.items ≡ length levels.now }
+    requires below_sized { length counts.old.below.items ≡ length levels.now }
+    requires own { (slice_index counts.old.own.items a < 2 ^ 31) × (slice_index counts.old.own.items b < 2 ^ 31) }
+    requires below { (slice_index counts.old.below.items a < 2 ^ 31) × (slice_index counts.old.below.items b < 2 ^ 31) }
+    ensures own { counts.new.own.items ≡ linked levels.now 0 a b counts.old.own.items }
+    ensures below { counts.new.below.items ≡ linked levels.now 1 a b counts.old.below.items }
 {
-    if levels.get(v).saturating_sub(less) <= levels.get(w) {
-        1
-    } else {
-        0
-    }
+    let (low, high) = (levels.get(a), levels.get(b));
+    counts.own[a as usize] += as_one(low <= high);
+    counts.own[b as usize] += as_one(high <= low);
+    counts.below[a as usize] += as_one(low.saturating_sub(1) <= high);
+    counts.below[b as usize] += as_one(high.saturating_sub(1) <= low);
 }
 
-/// Counts an edge between a and b that came in, at both ends, each from `less` levels below its own on.
-pub fn count_edge(levels: &Levels, counts: &mut Vec<u32>, less: u16, a: u32, b: u32)
+/// Removes an edge between a and b from both counts of each end.
+pub fn uncount_edge(levels: &Levels, counts: &mut Counts, a: u32, b: u32)
     requires order { a < b }
-    requires below { b < length levels.now }
-    requires sized { length counts.old.items ≡ length levels.now }
-    requires low { slice_index counts.old.items a < 2 ^ 31 }
-    requires high { slice_index counts.old.items b < 2 ^ 31 }
-    ensures { counts.new.items ≡ linked levels.now less a b counts.old.items }
+    requires within { b < length levels.now }
+    requires own_sized { length counts.old.own.items ≡ length levels.now }
+    requires below_sized { length counts.old.below.items ≡ length levels.now }
+    requires own { (share levels.now 0 a b ≤ slice_index counts.old.own.items a) × (share levels.now 0 b a ≤ slice_index counts.old.own.items b) }
+    requires below { (share levels.now 1 a b ≤ slice_index counts.old.below.items a) × (share levels.now 1 b a ≤ slice_index counts.old.below.items b) }
+    ensures own { counts.new.own.items ≡ unlinked levels.now 0 a b counts.old.own.items }
+    ensures below { counts.new.below.items ≡ unlinked levels.now 1 a b counts.old.below.items }
 {
-    let low = counts[a as usize] + share(levels, less, a, b);
-    let high = counts[b as usize] + share(levels, less, b, a);
-    counts[a as usize] = low;
-    counts[b as usize] = high;
-}
-
-/// Removes an edge between a and b from the counts of both ends, each from `less` levels below its own on.
-pub fn uncount_edge(levels: &Levels, counts: &mut Vec<u32>, less: u16, a: u32, b: u32)
-    requires order { a < b }
-    requires below { b < length levels.now }
-    requires sized { length counts.old.items ≡ length levels.now }
-    requires low { share levels.now less a b ≤ slice_index counts.old.items a }
-    requires high { share levels.now less b a ≤ slice_index counts.old.items b }
-    ensures { counts.new.items ≡ unlinked levels.now less a b counts.old.items }
-{
-    let low = counts[a as usize] - share(levels, less, a, b);
-    let high = counts[b as usize] - share(levels, less, b, a);
-    counts[a as usize] = low;
-    counts[b as usize] = high;
+    let (low, high) = (levels.get(a), levels.get(b));
+    counts.own[a as usize] -= as_one(low <= high);
+    counts.own[b as usize] -= as_one(high <= low);
+    counts.below[a as usize] -= as_one(low.saturating_sub(1) <= high);
+    counts.below[b as usize] -= as_one(high.saturating_sub(1) <= low);
 }
 
 /// Counts the edges that came into the graph, in both counts of their ends.
@@ -58,8 +50,7 @@ pub fn count_edges(graph: &Graph, levels: &Levels, counts: &mut Counts, edges: &
     ensures { IsAdjacency graph.now levels.now counts.new.own.items counts.new.below.items }
 {
     for e in edges {
-        count_edge(levels, &mut counts.own, 0, e.a, e.b);
-        count_edge(levels, &mut counts.below, 1, e.a, e.b);
+        count_edge(levels, counts, e.a, e.b);
     }
 }
 
@@ -69,7 +60,6 @@ pub fn uncount_edges(graph: &Graph, levels: &Levels, counts: &mut Counts, edges:
     ensures { IsAdjacency graph.now levels.now counts.new.own.items counts.new.below.items }
 {
     for e in edges {
-        uncount_edge(levels, &mut counts.own, 0, e.a, e.b);
-        uncount_edge(levels, &mut counts.below, 1, e.a, e.b);
+        uncount_edge(levels, counts, e.a, e.b);
     }
 }
