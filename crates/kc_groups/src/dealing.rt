@@ -19,16 +19,16 @@ use std::alloc::{AllocError, Global};
 pub(crate) fn open_groups(
     alloc: Global,
     phase: &Phase<'_>,
-    places: &mut Vec<u32>,
+    places: &mut [u32],
     spares: &mut Vec<Entry>,
     entries: &mut Vec<Entry>,
 ) -> Result<(), AllocError>
-    requires small { length places.old.items ≤ MAX_VERTICES }
-    requires order { AreInOrder (length places.old.items) phase.now.moves.now }
-    requires rooted { AreRooted (length places.old.items) (is_mover phase.now.moves.now) places.old.items }
+    requires small { length places.old ≤ MAX_VERTICES }
+    requires order { AreInOrder (length places.old) phase.now.moves.now }
+    requires rooted { AreRooted (length places.old) (is_mover phase.now.moves.now) places.old }
     requires entries { entries.old.items ≡ [] }
-    ensures entries { OnOk result (entries.new.items ≡ map (empty_entry phase.now.number phase.now.add) (labels_below places.old.items (length places.old.items))) }
-    ensures places { OnOk result (ArePlaces (length places.old.items) places.old.items (labels_below places.old.items (length places.old.items)) places.new.items (length places.old.items)) }
+    ensures entries { OnOk result (entries.new.items ≡ map (empty_entry phase.now.number phase.now.add) (labels_below places.old (length places.old))) }
+    ensures places { OnOk result (ArePlaces (length places.old) places.old (labels_below places.old (length places.old)) places.new (length places.old)) }
 {
     let moves = phase.moves.as_slice();
     for m in moves {

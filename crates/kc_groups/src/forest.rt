@@ -6,12 +6,12 @@ ghost use Rattle.kc_groups.specs.private.Gathering.{AreLinks};
 use kc_graph::Edge;
 
 // Returns the root of a place. On the way it halves the path: every second place then points to its parent's parent.
-fn find(parents: &mut Vec<u32>, place: u32) -> u32
-    requires inside { place < length parents.old.items }
-    requires forest { (roots : List ℕ) × IsForest parents.old.items roots }
-    ensures forest { (roots : List ℕ) → IsForest parents.old.items roots → IsForest parents.new.items roots }
-    ensures sized { length parents.new.items ≡ length parents.old.items }
-    ensures root { (roots : List ℕ) → IsForest parents.old.items roots → result ≡ slice_index roots place }
+fn find(parents: &mut [u32], place: u32) -> u32
+    requires inside { place < length parents.old }
+    requires forest { (roots : List ℕ) × IsForest parents.old roots }
+    ensures forest { (roots : List ℕ) → IsForest parents.old roots → IsForest parents.new roots }
+    ensures sized { length parents.new ≡ length parents.old }
+    ensures root { (roots : List ℕ) → IsForest parents.old roots → result ≡ slice_index roots place }
 {
     let mut at = place;
     while parents[at as usize] != at {
@@ -24,14 +24,14 @@ fn find(parents: &mut Vec<u32>, place: u32) -> u32
 
 // Makes one tree of the trees of two places, under the lesser of their roots. Returns a place of that tree, its root
 // unless the two have the same parent.
-pub(crate) fn join(parents: &mut Vec<u32>, first: u32, second: u32) -> u32
-    requires first { first < length parents.old.items }
-    requires second { second < length parents.old.items }
-    requires forest { (roots : List ℕ) × IsForest parents.old.items roots }
-    ensures forest { (roots : List ℕ) → IsForest parents.old.items roots → IsForest parents.new.items (merged first second roots) }
-    ensures sized { length parents.new.items ≡ length parents.old.items }
-    ensures inside { result < length parents.old.items }
-    ensures same { (roots : List ℕ) → IsForest parents.new.items roots → slice_index roots result ≡ slice_index roots first }
+pub(crate) fn join(parents: &mut [u32], first: u32, second: u32) -> u32
+    requires first { first < length parents.old }
+    requires second { second < length parents.old }
+    requires forest { (roots : List ℕ) × IsForest parents.old roots }
+    ensures forest { (roots : List ℕ) → IsForest parents.old roots → IsForest parents.new (merged first second roots) }
+    ensures sized { length parents.new ≡ length parents.old }
+    ensures inside { result < length parents.old }
+    ensures same { (roots : List ℕ) → IsForest parents.new roots → slice_index roots result ≡ slice_index roots first }
 {
     // Two places with the same parent are in one tree already. Most are, so this test saves the stores.
     if parents[first as usize] == parents[second as usize] {
@@ -45,10 +45,10 @@ pub(crate) fn join(parents: &mut Vec<u32>, first: u32, second: u32) -> u32
 }
 
 // Joins the two places of each link.
-pub(crate) fn join_links(links: &[Edge], parents: &mut Vec<u32>)
-    requires forest { (roots : List ℕ) × IsForest parents.old.items roots }
-    requires links { (linked : ℕ → ℕ → Bool) × AreLinks (length parents.old.items) linked links.now }
-    ensures { (linked : ℕ → ℕ → Bool) → AreLinks (length parents.old.items) linked links.now → Joins (length parents.old.items) linked parents.old.items parents.new.items }
+pub(crate) fn join_links(links: &[Edge], parents: &mut [u32])
+    requires forest { (roots : List ℕ) × IsForest parents.old roots }
+    requires links { (linked : ℕ → ℕ → Bool) × AreLinks (length parents.old) linked links.now }
+    ensures { (linked : ℕ → ℕ → Bool) → AreLinks (length parents.old) linked links.now → Joins (length parents.old) linked parents.old parents.new }
 {
     for link in links {
         join(parents, link.b, link.a);

@@ -57,12 +57,12 @@ fn vertex_with_prefetch(graph: &Graph, moves: &[Move], place: u32) -> u32
 //
 // Neighbours and moves ascend by vertex. So the lesser neighbours come first, and no greater one has a lesser place. A
 // neighbour that doesn't move has the number of vertices for its place.
-fn link_row(graph: &Graph, moves: &[Move], places: &[u32], parents: &mut Vec<u32>, place: u32)
+fn link_row(graph: &Graph, moves: &[Move], places: &[u32], parents: &mut [u32], place: u32)
     requires inside { place < length moves.now }
     requires numbered { AreNumbered graph.now.vertices (vertices moves.now) places.now }
-    requires many { length parents.old.items ≡ length moves.now }
-    requires forest { (roots : List ℕ) × IsForest parents.old.items roots }
-    ensures { Joins (length moves.now) (in_row graph.now (vertices moves.now) place) parents.old.items parents.new.items }
+    requires many { length parents.old ≡ length moves.now }
+    requires forest { (roots : List ℕ) × IsForest parents.old roots }
+    ensures { Joins (length moves.now) (in_row graph.now (vertices moves.now) place) parents.old parents.new }
 {
     let v = vertex_with_prefetch(graph, moves, place);
     // A place of the move's tree, mostly its root: from there the next join needn't look for the root again.
@@ -143,13 +143,13 @@ pub(crate) fn links_between(
 }
 
 // Joins the two moves at the ends of each edge, if both ends move.
-pub(crate) fn join_ends(edges: &[Edge], moves: &[Move], places: &[u32], parents: &mut Vec<u32>)
+pub(crate) fn join_ends(edges: &[Edge], moves: &[Move], places: &[u32], parents: &mut [u32])
     requires small { length moves.now ≤ MAX_VERTICES }
     requires numbered { AreNumbered (length places.now) (vertices moves.now) places.now }
     requires ascending { EdgesFrom (length places.now) 0 0 edges.now }
-    requires many { length parents.old.items ≡ length moves.now }
-    requires forest { (roots : List ℕ) × IsForest parents.old.items roots }
-    ensures { Joins (length moves.now) (in_edges edges.now (vertices moves.now)) parents.old.items parents.new.items }
+    requires many { length parents.old ≡ length moves.now }
+    requires forest { (roots : List ℕ) × IsForest parents.old roots }
+    ensures { Joins (length moves.now) (in_edges edges.now (vertices moves.now)) parents.old parents.new }
 {
     let m = moves.len() as u32;
     for e in edges {

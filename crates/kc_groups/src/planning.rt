@@ -31,14 +31,14 @@ fn label_groups(
     graph: &Graph,
     gone: &[Edge],
     moves: &[Move],
-    places: &mut Vec<u32>,
-    parents: &mut Vec<u32>,
+    places: &mut [u32],
+    parents: &mut [u32],
 )
     requires order { AreInOrder graph.now.vertices moves.now }
-    requires numbered { AreNumbered graph.now.vertices (vertices moves.now) places.old.items }
-    requires gathered { AreGathered (length moves.now) (in_rows graph.now (vertices moves.now) (length moves.now)) parents.old.items }
+    requires numbered { AreNumbered graph.now.vertices (vertices moves.now) places.old }
+    requires gathered { AreGathered (length moves.now) (in_rows graph.now (vertices moves.now) (length moves.now)) parents.old }
     requires ascending { EdgesFrom graph.now.vertices 0 0 gone.now }
-    ensures { AreLabels (with_edges graph.now gone.now) (is_mover moves.now) places.new.items }
+    ensures { AreLabels (with_edges graph.now gone.now) (is_mover moves.now) places.new }
 {
     // Evidence for the check: the vertices of the graph are at most `MAX_VERTICES`.
     let _n = graph.vertices();
@@ -51,14 +51,14 @@ fn label_groups(
 fn plan_labelled(
     alloc: Global,
     phase: &Phase<'_>,
-    places: &mut Vec<u32>,
+    places: &mut [u32],
     spares: &mut Vec<Entry>,
 ) -> Result<PhasePlan, AllocError>
-    requires small { length places.old.items ≤ MAX_VERTICES }
-    requires order { AreInOrder (length places.old.items) phase.now.moves.now }
-    requires labelled { (g : GraphShape) × IsLabelled g phase.now places.old.items }
-    ensures clean { OnOk result (places.new.items ≡ clean (length places.old.items)) }
-    ensures entries { IfOk result (λ plan. (g : GraphShape) → IsLabelled g phase.now places.old.items → IsPhasePlan phase.now g [] plan) }
+    requires small { length places.old ≤ MAX_VERTICES }
+    requires order { AreInOrder (length places.old) phase.now.moves.now }
+    requires labelled { (g : GraphShape) × IsLabelled g phase.now places.old }
+    ensures clean { OnOk result (places.new ≡ clean (length places.old)) }
+    ensures entries { IfOk result (λ plan. (g : GraphShape) → IsLabelled g phase.now places.old → IsPhasePlan phase.now g [] plan) }
 {
     let moves = phase.moves.as_slice();
     let mut groups = Vec::new(alloc);
@@ -106,7 +106,7 @@ pub fn plan_moves<R: Threads + Sync>(
     // Evidence for the check, as in `label_groups`.
     let _n = graph.vertices();
     let moves = phase.moves.as_slice();
-    let places = &mut work.places;
+    let places = work.places.as_mut_slice();
     number(moves, places);
     let mut parents = gather_rows(crew, graph, moves, places)?;
     label_groups(graph, gone, moves, places, &mut parents);
@@ -143,7 +143,7 @@ pub fn plan_phase(
     let n = graph.vertices();
     let moves = find_moves(alloc, n, before.as_slice(), after.as_slice())?;
     let mut work = GroupWork::new(alloc, n)?;
-    let places = &mut work.places;
+    let places = work.places.as_mut_slice();
     let list = moves.as_slice();
     number(list, places);
     let mut parents = link_rows(alloc, graph, list, places)?;

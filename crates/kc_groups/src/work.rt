@@ -57,11 +57,11 @@ impl GroupWork {
 }
 
 // Gives each vertex that moves the place of its move.
-pub(crate) fn number(moves: &[Move], places: &mut Vec<u32>)
-    requires few { length places.old.items ≤ MAX_VERTICES }
-    requires clean { places.old.items ≡ clean (length places.old.items) }
-    requires order { AreInOrder (length places.old.items) moves.now }
-    ensures { AreNumbered (length places.old.items) (vertices moves.now) places.new.items }
+pub(crate) fn number(moves: &[Move], places: &mut [u32])
+    requires few { length places.old ≤ MAX_VERTICES }
+    requires clean { places.old ≡ clean (length places.old) }
+    requires order { AreInOrder (length places.old) moves.now }
+    ensures { AreNumbered (length places.old) (vertices moves.now) places.new }
 {
     for place in 0..moves.len() {
         places[moves[place].vertex as usize] = place as u32;
@@ -70,11 +70,11 @@ pub(crate) fn number(moves: &[Move], places: &mut Vec<u32>)
 
 // Gives each vertex that moves the vertex of its root. A place points to a lesser place, whose vertex already has its
 // root's.
-pub(crate) fn label(moves: &[Move], parents: &[u32], places: &mut Vec<u32>)
-    requires numbered { AreNumbered (length places.old.items) (vertices moves.now) places.old.items }
+pub(crate) fn label(moves: &[Move], parents: &[u32], places: &mut [u32])
+    requires numbered { AreNumbered (length places.old) (vertices moves.now) places.old }
     requires forest { (roots : List ℕ) × IsForest parents.now roots }
     requires same { length parents.now ≡ length moves.now }
-    ensures { (roots : List ℕ) → IsForest parents.now roots → AreLabelled (length places.old.items) (vertices moves.now) roots places.new.items }
+    ensures { (roots : List ℕ) → IsForest parents.now roots → AreLabelled (length places.old) (vertices moves.now) roots places.new }
 {
     for place in 0..moves.len() {
         let v = moves[place].vertex;
@@ -88,11 +88,11 @@ pub(crate) fn label(moves: &[Move], parents: &[u32], places: &mut Vec<u32>)
 }
 
 // Resets the number of each vertex that moves to the number of vertices, so that the numbers are clean again.
-pub(crate) fn reset(moves: &[Move], places: &mut Vec<u32>)
-    requires few { length places.old.items ≤ MAX_VERTICES }
-    requires order { AreInOrder (length places.old.items) moves.now }
-    requires none { HaveNone (length places.old.items) (vertices moves.now) places.old.items }
-    ensures { places.new.items ≡ clean (length places.old.items) }
+pub(crate) fn reset(moves: &[Move], places: &mut [u32])
+    requires few { length places.old ≤ MAX_VERTICES }
+    requires order { AreInOrder (length places.old) moves.now }
+    requires none { HaveNone (length places.old) (vertices moves.now) places.old }
+    ensures { places.new ≡ clean (length places.old) }
 {
     let n = places.len() as u32;
     for m in moves {

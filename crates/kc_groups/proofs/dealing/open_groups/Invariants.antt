@@ -6,5 +6,5 @@ use Rattle.kc_groups.proofs.dealing.open_groups.Given as goal
 
 abbrev pub invariant-loop-m : goal.invariant-loop-m
 invariant-loop-m l =
-    (l.entries.items ≡ map (empty_entry l.phase.number l.phase.add) (labels_below l.initial.places.items (get_or (vertices l.moves) l.m-index (length l.initial.places.items))))
-    × ArePlaces (length l.initial.places.items) l.initial.places.items (labels_below l.initial.places.items (get_or (vertices l.moves) l.m-index (length l.initial.places.items))) l.places.items (get_or (vertices l.moves) l.m-index (length l.initial.places.items))
+    (l.entries.items ≡ map (empty_entry l.phase.number l.phase.add) (labels_below l.initial.places (get_or (vertices l.moves) l.m-index (length l.initial.places))))
+    × ArePlaces (length l.initial.places) l.initial.places (labels_below l.initial.places (get_or (vertices l.moves) l.m-index (length l.initial.places))) l.places (get_or (vertices l.moves) l.m-index (length l.initial.places))

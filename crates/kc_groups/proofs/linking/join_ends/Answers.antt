@@ -13,7 +13,7 @@ pub loop-e-init : goal.loop-e-init
 loop-e-init c = (
   c.requires.many,
   c.requires.forest,
-  λ before g. edges_first before (vertices c.args.moves.now) (length c.args.moves.now) c.args.edges.now c.args.parents.now.items g,
+  λ before g. edges_first before (vertices c.args.moves.now) (length c.args.moves.now) c.args.edges.now c.args.parents.now g,
 )
 
 pub bounds-places-e-inside : goal.bounds-places-e-inside
@@ -38,7 +38,7 @@ loop-e-preserved c =
     let edges = c.args.edges.now in
     let places = c.args.places.now in
     let n = length c.args.places.now in
-    let now = c.loop-e.parents.items in
+    let now = c.loop-e.parents in
     let k = c.loop-e.e-index in
     let d = c.e-item.result in
     let item : c.e-item.result ≡ get_or c.args.edges.now c.loop-e.e-index c.e-item.result = c.e-item.is in
@@ -68,4 +68,4 @@ loop-e-preserved c =
     ]
 
 pub returns : goal.returns
-returns c before g = edges_last before (vertices c.args.moves.now) (length c.args.moves.now) c.args.edges.now c.loop-e.parents.items c.loop-e.e-index (omega arith) (c.loop-e.invariant.2 before g)
+returns c before g = edges_last before (vertices c.args.moves.now) (length c.args.moves.now) c.args.edges.now c.loop-e.parents c.loop-e.e-index (omega arith) (c.loop-e.invariant.2 before g)

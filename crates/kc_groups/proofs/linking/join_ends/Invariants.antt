@@ -6,6 +6,6 @@ use Rattle.kc_groups.proofs.linking.join_ends.Given as goal
 
 abbrev pub invariant-loop-e : goal.invariant-loop-e
 invariant-loop-e l =
-    (length l.parents.items ≡ length l.moves)
-    × ((roots : List ℕ) × IsForest l.parents.items roots)
-    × ((before : ℕ → ℕ → Bool) → AreGathered (length l.moves) before l.initial.parents.items → AreGathered (length l.moves) (with_first before (vertices l.moves) l.edges l.e-index) l.parents.items)
+    (length l.parents ≡ length l.moves)
+    × ((roots : List ℕ) × IsForest l.parents roots)
+    × ((before : ℕ → ℕ → Bool) → AreGathered (length l.moves) before l.initial.parents → AreGathered (length l.moves) (with_first before (vertices l.moves) l.edges l.e-index) l.parents)

@@ -18,7 +18,7 @@ loop-w-init c = (
   c.requires.forest,
   omega (arith, c.requires.many, c.requires.inside),
   λ roots f. refl,
-  λ before g. row_first before (vertices c.args.moves.now) c.args.place c.neighbours-w-items.result.now c.args.parents.now.items g,
+  λ before g. row_first before (vertices c.args.moves.now) c.args.place c.neighbours-w-items.result.now c.args.parents.now g,
 )
 
 pub join-tree-requires-clause-first : goal.join-tree-requires-clause-first
@@ -35,7 +35,7 @@ loop-w-preserved c =
     let vs = vertices c.args.moves.now in
     let places = c.args.places.now in
     let items = c.neighbours-w-items.result.now in
-    let now = c.loop-w.parents.items in
+    let now = c.loop-w.parents in
     let few : length (vertices c.args.moves.now) ≤ c.args.graph.now.vertices = omega (arith, length-rising c.args.graph.now.vertices 0 vs c.requires.numbered.rises c.requires.numbered.below (omega arith)) in
     let h : c.args.place < length (vertices c.args.moves.now) = omega (arith, many c.args.moves.now, c.requires.inside) in
     let inside : c.loop-w.w-index < length c.neighbours-w-items.result.now = omega arith in
@@ -54,7 +54,7 @@ loop-w-preserved c =
             λ before g.
                 let so_far = old.4 before g in
                 row_link before vs place items now n places c.requires.numbered few h c.loop-w.w-index inside below so_far _ other refl w.if-other-place.true w.join-tree.ensures.sized
-                (subst (IsForest w.join-tree.new.parents.items) (sym (merged_near so_far.roots tree other place (old.3 so_far.roots so_far.forest))) (w.join-tree.ensures.forest so_far.roots so_far.forest)),
+                (subst (IsForest w.join-tree.new.parents) (sym (merged_near so_far.roots tree other place (old.3 so_far.roots so_far.forest))) (w.join-tree.ensures.forest so_far.roots so_far.forest)),
           )
       | else-other-place w ↦
           let high : c.args.place ≤ get_or c.args.places.now (get_or c.neighbours-w-items.result.now c.loop-w.w-index 0) 0 = omega (arith, w.if-other-place.false) in
@@ -72,7 +72,7 @@ returns c before g =
     let ms = c.args.moves.now in
     let vs = vertices c.args.moves.now in
     let is : c.neighbours-w-items.result.now ≡ neighbours_of (get_or (vertices c.args.moves.now) c.args.place 0) c.args.graph.now.edges = c.neighbours-w-items.ensures.value ∙ ap (λ v. neighbours_of v c.args.graph.now.edges) c.vertex_with_prefetch-v.ensures in
-    rw (many ms) at (row_last before vs c.args.place c.neighbours-w-items.result.now c.loop-w.parents.items c.args.graph.now c.loop-w.w-index c.requires.numbered.rises c.neighbours-w-items.ensures.ascending (omega (arith, many ms, c.requires.inside)) (inl (omega arith)) is (c.loop-w.invariant.4 before (rw (many ms) g)))
+    rw (many ms) at (row_last before vs c.args.place c.neighbours-w-items.result.now c.loop-w.parents c.args.graph.now c.loop-w.w-index c.requires.numbered.rises c.neighbours-w-items.ensures.ascending (omega (arith, many ms, c.requires.inside)) (inl (omega arith)) is (c.loop-w.invariant.4 before (rw (many ms) g)))
 
 pub returns-then-w-v : goal.returns-then-w-v
 returns-then-w-v c before g =
@@ -80,4 +80,4 @@ returns-then-w-v c before g =
     let vs = vertices c.args.moves.now in
     let is : c.neighbours-w-items.result.now ≡ neighbours_of (get_or (vertices c.args.moves.now) c.args.place 0) c.args.graph.now.edges = c.neighbours-w-items.ensures.value ∙ ap (λ v. neighbours_of v c.args.graph.now.edges) c.vertex_with_prefetch-v.ensures in
     let cut : get_or (vertices c.args.moves.now) c.args.place 0 ≤ get_or c.neighbours-w-items.result.now c.loop-w.w-index 0 = omega (arith, c.vertex_with_prefetch-v.ensures, c.if-w-v.true) in
-    rw (many ms) at (row_last before vs c.args.place c.neighbours-w-items.result.now c.loop-w.parents.items c.args.graph.now c.loop-w.w-index c.requires.numbered.rises c.neighbours-w-items.ensures.ascending (omega (arith, many ms, c.requires.inside)) (inr (omega arith, cut)) is (c.loop-w.invariant.4 before (rw (many ms) g)))
+    rw (many ms) at (row_last before vs c.args.place c.neighbours-w-items.result.now c.loop-w.parents c.args.graph.now c.loop-w.w-index c.requires.numbered.rises c.neighbours-w-items.ensures.ascending (omega (arith, many ms, c.requires.inside)) (inr (omega arith, cut)) is (c.loop-w.invariant.4 before (rw (many ms) g)))

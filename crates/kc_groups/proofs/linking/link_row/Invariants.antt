@@ -6,8 +6,8 @@ use Rattle.kc_groups.proofs.linking.link_row.Given as goal
 
 abbrev pub invariant-loop-w : goal.invariant-loop-w
 invariant-loop-w l =
-    (length l.parents.items ≡ length l.moves)
-    × ((roots : List ℕ) × IsForest l.parents.items roots)
-    × (l.tree < length l.parents.items)
-    × ((roots : List ℕ) → IsForest l.parents.items roots → get_or roots l.place 0 ≡ get_or roots l.tree 0)
-    × ((before : ℕ → ℕ → Bool) → AreGathered (length (vertices l.moves)) before l.initial.parents.items → AreGathered (length (vertices l.moves)) (so_far before (vertices l.moves) l.place l.w-items l.w-index) l.parents.items)
+    (length l.parents ≡ length l.moves)
+    × ((roots : List ℕ) × IsForest l.parents roots)
+    × (l.tree < length l.parents)
+    × ((roots : List ℕ) → IsForest l.parents roots → get_or roots l.place 0 ≡ get_or roots l.tree 0)
+    × ((before : ℕ → ℕ → Bool) → AreGathered (length (vertices l.moves)) before l.initial.parents → AreGathered (length (vertices l.moves)) (so_far before (vertices l.moves) l.place l.w-items l.w-index) l.parents)

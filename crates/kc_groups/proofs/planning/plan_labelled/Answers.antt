@@ -10,8 +10,8 @@ open_groups-requires-clause-rooted c =
     let g = c.requires.labelled.0 in
     let is = c.requires.labelled.1 in
     let ms = c.as_slice-moves.result.now in
-    let labels = c.args.places.now.items in
-    let are : AreLabels c.requires.labelled.0 (is_mover c.as_slice-moves.result.now) c.args.places.now.items = rw c.as_slice-moves.ensures is.are in
+    let labels = c.args.places.now in
+    let are : AreLabels c.requires.labelled.0 (is_mover c.as_slice-moves.result.now) c.args.places.now = rw c.as_slice-moves.ensures is.are in
     let order : AreInOrder c.requires.labelled.0.vertices c.as_slice-moves.result.now = rw (c.as_slice-moves.ensures, sym is.are.sized) c.requires.order in
     rw (sym c.as_slice-moves.ensures) (rooted_here g [] ms is.graph order tt labels labels are)
 
@@ -20,43 +20,43 @@ deal_moves-requires-clause-placed c =
     let g = c.requires.labelled.0 in
     let is = c.requires.labelled.1 in
     let ms = c.as_slice-moves.result.now in
-    let labels = c.args.places.now.items in
-    let are : AreLabels c.requires.labelled.0 (is_mover c.as_slice-moves.result.now) c.args.places.now.items = rw c.as_slice-moves.ensures is.are in
+    let labels = c.args.places.now in
+    let are : AreLabels c.requires.labelled.0 (is_mover c.as_slice-moves.result.now) c.args.places.now = rw c.as_slice-moves.ensures is.are in
     let order : AreInOrder c.requires.labelled.0.vertices c.as_slice-moves.result.now = rw (c.as_slice-moves.ensures, sym is.are.sized) c.requires.order in
-    rw (c.deref.ensures.value) (placed_moves g [] ms is.graph order tt labels labels are c.args.phase.now.number c.args.phase.now.add c.open_groups.new.places.items c.open_groups.new.entries.items c.in_ok-open_groups.ensures.entries c.in_ok-open_groups.ensures.places)
+    placed_moves g [] ms is.graph order tt labels labels are c.args.phase.now.number c.args.phase.now.add c.open_groups.new.places c.open_groups.new.entries.items c.in_ok-open_groups.ensures.entries c.in_ok-open_groups.ensures.places
 
 pub deal_moves-requires-clause-empty : goal.deal_moves-requires-clause-empty
 deal_moves-requires-clause-empty c =
     let g = c.requires.labelled.0 in
     let is = c.requires.labelled.1 in
     let ms = c.as_slice-moves.result.now in
-    let labels = c.args.places.now.items in
-    let are : AreLabels c.requires.labelled.0 (is_mover c.as_slice-moves.result.now) c.args.places.now.items = rw c.as_slice-moves.ensures is.are in
+    let labels = c.args.places.now in
+    let are : AreLabels c.requires.labelled.0 (is_mover c.as_slice-moves.result.now) c.args.places.now = rw c.as_slice-moves.ensures is.are in
     let order : AreInOrder c.requires.labelled.0.vertices c.as_slice-moves.result.now = rw (c.as_slice-moves.ensures, sym is.are.sized) c.requires.order in
-    no_moves g [] ms is.graph order tt labels labels are c.args.phase.now.number c.args.phase.now.add c.open_groups.new.places.items c.open_groups.new.entries.items c.in_ok-open_groups.ensures.entries c.in_ok-open_groups.ensures.places
+    no_moves g [] ms is.graph order tt labels labels are c.args.phase.now.number c.args.phase.now.add c.open_groups.new.places c.open_groups.new.entries.items c.in_ok-open_groups.ensures.entries c.in_ok-open_groups.ensures.places
 
 pub deal_edges-requires-clause-small : goal.deal_edges-requires-clause-small
-deal_edges-requires-clause-small c = rw (c.deref-2.ensures.value) (omega (arith, c.in_ok-open_groups.ensures.places.sized, c.requires.small))
+deal_edges-requires-clause-small c = omega (arith, c.in_ok-open_groups.ensures.places.sized, c.requires.small)
 
 pub deal_edges-requires-clause-placed : goal.deal_edges-requires-clause-placed
 deal_edges-requires-clause-placed c =
     let g = c.requires.labelled.0 in
     let is = c.requires.labelled.1 in
     let ms = c.as_slice-moves.result.now in
-    let labels = c.args.places.now.items in
-    let are : AreLabels c.requires.labelled.0 (is_mover c.as_slice-moves.result.now) c.args.places.now.items = rw c.as_slice-moves.ensures is.are in
+    let labels = c.args.places.now in
+    let are : AreLabels c.requires.labelled.0 (is_mover c.as_slice-moves.result.now) c.args.places.now = rw c.as_slice-moves.ensures is.are in
     let order : AreInOrder c.requires.labelled.0.vertices c.as_slice-moves.result.now = rw (c.as_slice-moves.ensures, sym is.are.sized) c.requires.order in
-    rw (c.deref-2.ensures.value) (placed_edges g [] ms is.graph order tt labels labels are c.args.phase.now.number c.args.phase.now.add c.open_groups.new.places.items c.open_groups.new.entries.items c.in_ok-open_groups.ensures.entries c.in_ok-open_groups.ensures.places c.deal_moves.new.entries.items (rw (c.deref.ensures.value) at c.in_ok-deal_moves.ensures) c.args.phase.now.edges.now is.present)
+    placed_edges g [] ms is.graph order tt labels labels are c.args.phase.now.number c.args.phase.now.add c.open_groups.new.places c.open_groups.new.entries.items c.in_ok-open_groups.ensures.entries c.in_ok-open_groups.ensures.places c.deal_moves.new.entries.items c.in_ok-deal_moves.ensures c.args.phase.now.edges.now is.present
 
 pub deal_edges-requires-clause-empty : goal.deal_edges-requires-clause-empty
 deal_edges-requires-clause-empty c =
     let g = c.requires.labelled.0 in
     let is = c.requires.labelled.1 in
     let ms = c.as_slice-moves.result.now in
-    let labels = c.args.places.now.items in
-    let are : AreLabels c.requires.labelled.0 (is_mover c.as_slice-moves.result.now) c.args.places.now.items = rw c.as_slice-moves.ensures is.are in
+    let labels = c.args.places.now in
+    let are : AreLabels c.requires.labelled.0 (is_mover c.as_slice-moves.result.now) c.args.places.now = rw c.as_slice-moves.ensures is.are in
     let order : AreInOrder c.requires.labelled.0.vertices c.as_slice-moves.result.now = rw (c.as_slice-moves.ensures, sym is.are.sized) c.requires.order in
-    no_edges g [] ms is.graph order tt labels labels are c.args.phase.now.number c.args.phase.now.add c.open_groups.new.places.items c.open_groups.new.entries.items c.in_ok-open_groups.ensures.entries c.in_ok-open_groups.ensures.places c.deal_moves.new.entries.items (rw (c.deref.ensures.value) at c.in_ok-deal_moves.ensures)
+    no_edges g [] ms is.graph order tt labels labels are c.args.phase.now.number c.args.phase.now.add c.open_groups.new.places c.open_groups.new.entries.items c.in_ok-open_groups.ensures.entries c.in_ok-open_groups.ensures.places c.deal_moves.new.entries.items c.in_ok-deal_moves.ensures
 
 pub reset-requires-clause-few : goal.reset-requires-clause-few
 reset-requires-clause-few c = omega (arith, c.in_ok-open_groups.ensures.places.sized, c.requires.small)
@@ -69,10 +69,10 @@ reset-requires-clause-none c =
     let g = c.requires.labelled.0 in
     let is = c.requires.labelled.1 in
     let ms = c.as_slice-moves.result.now in
-    let labels = c.args.places.now.items in
-    let are : AreLabels c.requires.labelled.0 (is_mover c.as_slice-moves.result.now) c.args.places.now.items = rw c.as_slice-moves.ensures is.are in
+    let labels = c.args.places.now in
+    let are : AreLabels c.requires.labelled.0 (is_mover c.as_slice-moves.result.now) c.args.places.now = rw c.as_slice-moves.ensures is.are in
     let order : AreInOrder c.requires.labelled.0.vertices c.as_slice-moves.result.now = rw (c.as_slice-moves.ensures, sym is.are.sized) c.requires.order in
-    none_else g [] ms is.graph order tt labels labels are c.args.phase.now.number c.args.phase.now.add c.open_groups.new.places.items c.open_groups.new.entries.items c.in_ok-open_groups.ensures.entries c.in_ok-open_groups.ensures.places
+    none_else g [] ms is.graph order tt labels labels are c.args.phase.now.number c.args.phase.now.add c.open_groups.new.places c.open_groups.new.entries.items c.in_ok-open_groups.ensures.entries c.in_ok-open_groups.ensures.places
 
 pub returns-clause-clean : goal.returns-clause-clean
 returns-clause-clean c = c.reset.ensures ∙ ap clean c.in_ok-open_groups.ensures.places.sized
@@ -80,9 +80,9 @@ returns-clause-clean c = c.reset.ensures ∙ ap clean c.in_ok-open_groups.ensure
 pub returns-clause-entries : goal.returns-clause-entries
 returns-clause-entries c g is =
     let ms = c.as_slice-moves.result.now in
-    let labels = c.args.places.now.items in
-    let are : AreLabels g (is_mover c.as_slice-moves.result.now) c.args.places.now.items = rw c.as_slice-moves.ensures is.are in
+    let labels = c.args.places.now in
+    let are : AreLabels g (is_mover c.as_slice-moves.result.now) c.args.places.now = rw c.as_slice-moves.ensures is.are in
     let order : AreInOrder g.vertices c.as_slice-moves.result.now = rw (c.as_slice-moves.ensures, sym is.are.sized) c.requires.order in
     rw (c.new-quiet.ensures, c.from_vec.ensures, sym c.as_slice-moves.ensures)
-    (entries_are g [] ms is.graph order tt labels labels are c.args.phase.now.number c.args.phase.now.add c.open_groups.new.places.items c.open_groups.new.entries.items c.in_ok-open_groups.ensures.entries c.in_ok-open_groups.ensures.places c.deal_moves.new.entries.items (rw (c.deref.ensures.value) at c.in_ok-deal_moves.ensures) c.args.phase.now.edges.now is.present c.deal_edges.new.entries.items c.deal_edges.new.quiet
-    (rw (c.deref-2.ensures.value) at c.in_ok-deal_edges.ensures.entries) (rw (c.deref-2.ensures.value) at c.in_ok-deal_edges.ensures.quiet))
+    (entries_are g [] ms is.graph order tt labels labels are c.args.phase.now.number c.args.phase.now.add c.open_groups.new.places c.open_groups.new.entries.items c.in_ok-open_groups.ensures.entries c.in_ok-open_groups.ensures.places c.deal_moves.new.entries.items c.in_ok-deal_moves.ensures c.args.phase.now.edges.now is.present c.deal_edges.new.entries.items c.deal_edges.new.quiet
+    c.in_ok-deal_edges.ensures.entries c.in_ok-deal_edges.ensures.quiet)

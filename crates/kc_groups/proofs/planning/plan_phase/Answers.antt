@@ -18,7 +18,7 @@ number-requires-clause-order c =
     ∙ ap (λ x. moves_between n x c.as_slice-2.result.now) c.as_slice.ensures
     ∙ ap (λ y. moves_between n c.args.before.now y) c.as_slice-2.ensures in
     let order : AreInOrder c.args.graph.now.vertices c.in_ok-moves.moves = between_in_order c.args.graph.now.vertices c.args.before.now c.args.after.now c.in_ok-moves.moves moves in
-    let long : length c.work.inside.places.items ≡ c.args.graph.now.vertices = ap (λ (xs : List ℕ). length xs) (c.work.view_is ∙ c.in_ok-work.ensures) ∙ length-replicate c.vertices-n.result c.vertices-n.result ∙ c.vertices-n.ensures.count in
+    let long : length c.as_mut_slice-places.result.now ≡ c.args.graph.now.vertices = ap (λ (xs : List ℕ). length xs) c.as_mut_slice-places.ensures.value ∙ ap (λ (xs : List ℕ). length xs) (c.work.view_is ∙ c.in_ok-work.ensures) ∙ length-replicate c.vertices-n.result c.vertices-n.result ∙ c.vertices-n.ensures.count in
     rw (long, c.as_slice-list.ensures) order
 
 pub link_rows-requires-clause-small : goal.link_rows-requires-clause-small
@@ -60,7 +60,7 @@ plan_labelled-requires-clause-order c =
     rw c.label_groups.ensures.sized order
 
 pub plan_labelled-requires-clause-labelled : goal.plan_labelled-requires-clause-labelled
-plan_labelled-requires-clause-labelled c = (c.args.graph.now, is_labelled c.args.graph.now [] _ c.label_groups.new.places.items c.vertices-n.ensures.graph tt c.requires.present (rw (sym c.as_slice-list.ensures) c.label_groups.ensures))
+plan_labelled-requires-clause-labelled c = (c.args.graph.now, is_labelled c.args.graph.now [] _ c.label_groups.new.places c.vertices-n.ensures.graph tt c.requires.present (rw (sym c.as_slice-list.ensures) c.label_groups.ensures))
 
 pub returns-clause-entries : goal.returns-clause-entries
 returns-clause-entries c =
@@ -70,7 +70,7 @@ returns-clause-entries c =
     ∙ ap (λ k. moves_between k c.as_slice.result.now c.as_slice-2.result.now) c.vertices-n.ensures.count
     ∙ ap (λ x. moves_between n x c.as_slice-2.result.now) c.as_slice.ensures
     ∙ ap (λ y. moves_between n c.args.before.now y) c.as_slice-2.ensures in
-    c.in_ok-plan.ensures.entries c.args.graph.now (is_labelled c.args.graph.now [] _ c.label_groups.new.places.items c.vertices-n.ensures.graph tt c.requires.present (rw (sym c.as_slice-list.ensures) c.label_groups.ensures))
+    c.in_ok-plan.ensures.entries c.args.graph.now (is_labelled c.args.graph.now [] _ c.label_groups.new.places c.vertices-n.ensures.graph tt c.requires.present (rw (sym c.as_slice-list.ensures) c.label_groups.ensures))
     c.args.before.now c.args.after.now (record { before = c.requires.before; after = c.requires.after; moves = moves })
 
 pub returns-clause-well_formed : goal.returns-clause-well_formed

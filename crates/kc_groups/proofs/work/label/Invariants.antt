@@ -6,6 +6,6 @@ use Rattle.kc_groups.proofs.work.label.Given as goal
 
 abbrev pub invariant-loop-place : goal.invariant-loop-place
 invariant-loop-place l =
-    (length l.places.items ≡ length l.initial.places.items)
-    × HaveNone (length l.initial.places.items) (vertices l.moves) l.places.items
-    × ((roots : List ℕ) → IsForest l.parents roots → (i : ℕ) → i < l.place → get_or l.places.items (get_or (vertices l.moves) i 0) 0 ≡ get_or (vertices l.moves) (get_or roots i 0) 0)
+    (length l.places ≡ length l.initial.places)
+    × HaveNone (length l.initial.places) (vertices l.moves) l.places
+    × ((roots : List ℕ) → IsForest l.parents roots → (i : ℕ) → i < l.place → get_or l.places (get_or (vertices l.moves) i 0) 0 ≡ get_or (vertices l.moves) (get_or roots i 0) 0)

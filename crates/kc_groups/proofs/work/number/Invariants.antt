@@ -5,6 +5,6 @@ use Rattle.kc_groups.proofs.work.number.Given as goal
 
 abbrev pub invariant-loop-place : goal.invariant-loop-place
 invariant-loop-place l =
-    (length l.places.items ≡ length l.initial.places.items)
-    × HaveNone (length l.initial.places.items) (vertices l.moves) l.places.items
-    × ((i : ℕ) → i < l.place → get_or l.places.items (get_or (vertices l.moves) i 0) 0 ≡ i)
+    (length l.places ≡ length l.initial.places)
+    × HaveNone (length l.initial.places) (vertices l.moves) l.places
+    × ((i : ℕ) → i < l.place → get_or l.places (get_or (vertices l.moves) i 0) 0 ≡ i)
