@@ -43,8 +43,8 @@ fn digit_of(byte: u8) -> u32
     (byte as u32).wrapping_sub(b'0' as u32)
 }
 
-/// The most digits that [`near_digits`] reads: as many as the greatest vertex has. No value of so few digits is too
-/// large, and the compiler unrolls a loop of fixed length.
+// The most digits that `near_digits` reads: as many as the greatest vertex has. No value of so few digits is too large,
+// and the compiler unrolls a loop of fixed length.
 pub(crate) const NEAR: usize = 8;
 
 // Returns the value of the first digits from `start` on, at most `NEAR` of them, and where they end. As many bytes

@@ -29,7 +29,7 @@ loop-e-preserved g c =
     let full = ap (nat_le c.args.ahead.rules.item_limit) c.len.ensures in
     record {
       same = c.loop-e.invariant.same ∙ c.in_default.ensures.adds.batch _ ∙ step_on (batch_from c.args.ahead.rules (Within c.add_items.new.items)) (batch_from c.args.ahead.rules (Within c.push.new.self)) (onto_token t) _ _ s.token
-          (λ rest. rw now (items_add c.args.ahead.rules c.add_items.new.items t c.in-Add.item _ (ap (nat_le c.args.ahead.rules.item_limit) c.len.ensures) (sym c.turn_at.ensures.turn ∙ c.in-Add.is) rest));
+          (λ rest. rw now (items_add c.args.ahead.rules c.add_items.new.items t c.in-Add.item _ full (sym c.turn_at.ensures.turn ∙ c.in-Add.is) rest));
       are = rw now (one_more c.args.ahead.rules c.add_items.new.items c.in-Add.item _ full c.in_default.ensures.items (rw c.in-Add.is at c.turn_at.ensures.sound));
       budget = omega (arith, takes_le _ _ _ s.takes, c.add_items.ensures.budget, c.loop-e.invariant.budget);
       taken = s.taken ∙ c.loop-e.invariant.taken;
