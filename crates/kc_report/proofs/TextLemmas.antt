@@ -1,8 +1,9 @@
 -- Texts that are written one after another, and the lines of phases and groups as they are put together.
-use Rattle.std.proofs.Common.{ℕ, suc, zero, ◌+◌, ◌<◌, ◌≡◌, List, [], ◌∷◌, ◌++◌, length, get_or, take, map, ap, sym, ◌∙◌, arith, append_assoc, add-one, rules, subst}
+use Rattle.std.proofs.Common.{ℕ, suc, zero, ◌+◌, ◌<◌, ◌≡◌, List, [], ◌∷◌, ◌++◌, length, get_or, take, drop, map, refl, ap, sym, ◌∙◌, arith, append_assoc, add-one, rules, subst, take-append-drop}
 use Rattle.std.specs.Prelude.{Option, Some, decimal, codes, All, IsSome}
 use Rattle.std.specs.List.{join_with_byte, flat_map}
 use Rattle.std.specs.Io.KnownBytes.{append_known}
+use Rattle.std.proofs.lemmas.Grind.{flat_map-append}
 use Rattle.std.proofs.lemmas.List.{append-nil}
 use Rattle.std.proofs.lemmas.List.Elements.{All-cons, All-nil}
 use Rattle.kc_text.specs.Printing.{printed_line}
@@ -12,6 +13,8 @@ use Rattle.kc_history.specs.declared.entries.Entry.{Entry}
 use Rattle.kc_levels.specs.declared.moves.Move.{Move}
 use Rattle.kc_groups.specs.declared.plans.PhasePlan.{PhasePlan}
 use Rattle.kc_groups.specs.WellFormed.{IsWellFormed}
+use Rattle.kc_report.specs.private.HeldBack.{IsHeldBack}
+use Rattle.kc_report.proofs.VertexLemmas.{held_then}
 use Rattle.kc_report.specs.Lines.{direction_word, phase_line, member_word, label_word, group_line}
 
 -- the texts of a list, split after the one at place i
@@ -57,6 +60,22 @@ members_more f xs i d old buffer more h e t =
     let s = split_at f xs i d h in
     rw (add-one, s.here) (t ∙ ap (λ (b : List ℕ). b ++ f (get_or xs i d)) e ∙ append_assoc old (flat_map f (take i xs)) (f (get_or xs i d)))
 
+-- after a first text some were written or held back, and one more is held back
+pub held_after : {A : Type 0} (lead : List ℕ) (f : A → List ℕ) (xs : List A) (i : ℕ) (d x : A) (before now : Option (List ℕ)) (old new : List ℕ) → i < length xs → x ≡ get_or xs i d
+    → IsHeldBack before now (lead ++ flat_map f (take i xs)) old → new ≡ old ++ f x → IsHeldBack before now (lead ++ flat_map f (take (i + 1) xs)) new
+held_after lead f xs i d x before now old new h is a e =
+    let same : a.said ++ new ≡ (lead ++ flat_map f (take i xs)) ++ f (get_or xs i d) = rw (e, a.all) (sym (append_assoc a.said old (f x)) ∙ ap (λ y. (a.said ++ old) ++ f y) is) in
+    record { said = a.said; all = sym (members_more f xs i d lead _ _ h refl same); taken = a.taken }
+
+-- after a first text some were written or held back, and a prefix of what was held back was written
+pub held_within : {A : Type 0} (lead : List ℕ) (f : A → List ℕ) (xs : List A) (i : ℕ) (before now later : Option (List ℕ)) (held : List ℕ)
+    → IsHeldBack before now (lead ++ flat_map f (take i xs)) held → IsPrefix now later held → IsPrefix before later (lead ++ flat_map f xs)
+held_within lead f xs i before now later held a b =
+    let first = lead ++ flat_map f (take i xs) in
+    let all : first ++ flat_map f (drop i xs) ≡ lead ++ flat_map f xs =
+    append_assoc lead (flat_map f (take i xs)) (flat_map f (drop i xs)) ∙ ap (λ (t : List ℕ). lead ++ t) (sym (flat_map-append f (take i xs) (drop i xs))) ∙ ap (λ ys. lead ++ flat_map f ys) (take-append-drop i xs) in
+    subst (λ text. IsPrefix before later text) all (prefix_longer before later first (flat_map f (drop i xs)) (held_then before now later first held a b))
+
 -- words that are joined, each but the first with its blank
 pub joined : {A : Type 0} (word : List ℕ) (f : A → List ℕ) (xs : List A) → join_with_byte 32 (word ∷ map f xs) ≡ word ++ flat_map (λ x. 32 ∷ f x) xs
 joined word f [] = sym (append-nil word)
@@ -65,8 +84,8 @@ joined word f (x ∷ xs) = ap (λ (t : List ℕ). word ++ 32 ∷ t) (joined (f x
 phase_regrouped : (p b r q n s e : List ℕ) → ((((p ++ s) ++ b) ++ ((s ++ r) ++ (s ++ (q ++ s)))) ++ n) ++ e ≡ (p ++ (s ++ (b ++ (s ++ (r ++ (s ++ (q ++ (s ++ n)))))))) ++ e
 phase_regrouped p b r q n s e = simp append_assoc
 
-group_regrouped : (p b l m s e : List ℕ) → ((p ++ (s ++ (b ++ (s ++ l)))) ++ m) ++ e ≡ (p ++ (s ++ (b ++ (s ++ (l ++ m))))) ++ e
-group_regrouped p b l m s e = simp append_assoc
+group_regrouped : (o p b l m s e : List ℕ) → (((o ++ p) ++ (s ++ (b ++ (s ++ l)))) ++ m) ++ e ≡ o ++ ((p ++ (s ++ (b ++ (s ++ (l ++ m))))) ++ e)
+group_regrouped o p b l m s e = simp append_assoc
 
 phase_parts : (phase quiet : ℕ) (direction old a word b : List ℕ) → old ≡ [] → a ≡ (old ++ codes "phase ") ++ decimal phase → word ≡ (codes " " ++ direction) ++ codes " quiet " → b ≡ (a ++ word) ++ decimal quiet
     → b ++ 10 ∷ [] ≡ printed_line (codes "phase" ∷ decimal phase ∷ direction ∷ codes "quiet" ∷ decimal quiet ∷ [])
@@ -78,16 +97,16 @@ phase_filled plan quiet old a word b z eq ea ew eb =
     phase_parts plan.quiet.phase quiet (direction_word plan.quiet.add) old a word b z ea ew eb
     ∙ ap (λ (n : ℕ). printed_line (codes "phase" ∷ decimal plan.quiet.phase ∷ direction_word plan.quiet.add ∷ codes "quiet" ∷ decimal n ∷ [])) eq
 
-group_parts : (phase label : ℕ) (members words old a b d : List ℕ) → old ≡ [] → a ≡ old ++ codes "group" → b ≡ a ++ 32 ∷ (decimal phase ++ 32 ∷ decimal label) → d ≡ b ++ members → words ≡ decimal label ++ members
-    → d ++ 10 ∷ [] ≡ (codes "group" ++ 32 ∷ (decimal phase ++ 32 ∷ words)) ++ 10 ∷ []
-group_parts phase label members words old a b d z ea eb ed ew = rw (ed, eb, ea, z, ew) (group_regrouped (codes "group") (decimal phase) (decimal label) members (32 ∷ []) (10 ∷ []))
+group_parts : (phase label : ℕ) (members words old a b d f : List ℕ) → a ≡ old ++ codes "group" → b ≡ a ++ 32 ∷ (decimal phase ++ 32 ∷ decimal label) → d ≡ b ++ members → f ≡ d ++ 10 ∷ [] → words ≡ decimal label ++ members
+    → f ≡ old ++ ((codes "group" ++ 32 ∷ (decimal phase ++ 32 ∷ words)) ++ 10 ∷ [])
+group_parts phase label members words old a b d f ea eb ed ef ew = rw (ef, ed, eb, ea, ew) (group_regrouped old (codes "group") (decimal phase) (decimal label) members (32 ∷ []) (10 ∷ []))
 
-pub group_filled : (group : Entry) (label : ℕ) (old a b d : List ℕ) → old ≡ [] → group.label ≡ Some label → a ≡ old ++ codes "group" → b ≡ a ++ 32 ∷ (decimal group.phase ++ 32 ∷ decimal label)
-    → d ≡ b ++ flat_map (λ (m : Move). 32 ∷ member_word m) group.moves → d ++ 10 ∷ [] ≡ group_line group
-group_filled group label old a b d z el ea eb ed =
+pub group_filled : (group : Entry) (label : ℕ) (old a b d f : List ℕ) → group.label ≡ Some label → a ≡ old ++ codes "group" → b ≡ a ++ 32 ∷ (decimal group.phase ++ 32 ∷ decimal label)
+    → d ≡ b ++ flat_map (λ (m : Move). 32 ∷ member_word m) group.moves → f ≡ d ++ 10 ∷ [] → f ≡ old ++ group_line group
+group_filled group label old a b d f el ea eb ed ef =
     let words : join_with_byte 32 (label_word group.label ∷ map member_word group.moves) ≡ decimal label ++ flat_map (λ (m : Move). 32 ∷ member_word m) group.moves =
     ap (λ (o : Option ℕ). join_with_byte 32 (label_word o ∷ map member_word group.moves)) el ∙ joined (decimal label) member_word group.moves in
-    group_parts group.phase label (flat_map (λ (m : Move). 32 ∷ member_word m) group.moves) (join_with_byte 32 (label_word group.label ∷ map member_word group.moves)) old a b d z ea eb ed words
+    group_parts group.phase label (flat_map (λ (m : Move). 32 ∷ member_word m) group.moves) (join_with_byte 32 (label_word group.label ∷ map member_word group.moves)) old a b d f ea eb ed ef words
 
 -- each group of a well formed plan has a label
 labels_there : (groups : List Entry) (labels : List ℕ) → map (λ (e : Entry). e.label) groups ≡ map Some labels → All (λ (e : Entry). IsSome e.label) groups

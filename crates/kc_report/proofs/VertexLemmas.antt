@@ -3,8 +3,9 @@ use Rattle.std.proofs.Common.{ℕ, zero, suc, ◌≡◌, ◌≤◌, ◌<◌, ◌
 use Rattle.std.proofs.lemmas.Bool.{cases_lt}
 use Rattle.std.proofs.lemmas.List.{append-nil}
 use Rattle.std.specs.Io.KnownBytes.{append_known}
-use Rattle.std.specs.Prelude.{Option}
-use Rattle.kc_text.specs.Writing.{IsPrefix}
+use Rattle.std.specs.Prelude.{Option, Result, Ok, Err}
+use Rattle.kc_text.specs.Writing.{IsPrefix, Appends}
+use Rattle.kc_text.specs.declared.buf.SendFault.{SendFault}
 use Rattle.kc_text.proofs.lemmas.Writing.{append_none, append_twice, prefix_longer, prefix_then}
 use Rattle.kc_graph.specs.Shape.{GraphShape}
 use Rattle.kc_levels.specs.declared.profile.Profile.{Profile}
@@ -64,13 +65,18 @@ pub held_emptied : (before now later : Option (List ℕ)) (text held new : List 
 held_emptied before now later text held new a e none = record { said = text; all = rw none (sym (append-nil text)); taken = held_sent before now later text held a e }
 
 -- a prefix of what was held back was written
-held_then : (before now later : Option (List ℕ)) (text held : List ℕ) → IsHeldBack before now text held → IsPrefix now later held → IsPrefix before later text
+pub held_then : (before now later : Option (List ℕ)) (text held : List ℕ) → IsHeldBack before now text held → IsPrefix now later held → IsPrefix before later text
 held_then before now later text held a b = record {
   said = a.said ++ b.said;
   rest = b.rest;
   all = a.all ∙ ap (λ (rest : List ℕ). a.said ++ rest) b.all ∙ sym (append_assoc a.said b.said b.rest);
   taken = append_twice before now later a.said b.said a.taken b.taken;
 }
+
+-- what was held back was written, so far as it was
+pub appends_held : {T : Type 0} → (before now later : Option (List ℕ)) (text held : List ℕ) (result : Result T SendFault) → IsHeldBack before now text held → Appends now later held result → Appends before later text result
+appends_held before now later text held (Ok x) a s = held_sent before now later text held a s
+appends_held before now later text held (Err f) a s = held_then before now later text held a s
 
 -- some lines were written or held back, and a prefix of what was held back was written
 pub held_prefix : (line : ℕ → List ℕ) (before now later : Option (List ℕ)) (v n : ℕ) (held : List ℕ) → v ≤ n → IsHeldBack before now (vertex_lines line v) held → IsPrefix now later held → IsPrefix before later (vertex_lines line n ++ end_line)

@@ -45,7 +45,8 @@ pub struct Accepted<'a> {
     pub cleaned: &'a Cleaned,
 }
 
-/// Writes the lines of an accepted batch as `write_batch` does. `members` composes the members of its groups.
+/// Writes the lines of an accepted batch as `write_batch` does. `members` composes the members of its groups, and says
+/// how many bytes of the lines of a phase's groups are sent together.
 pub fn write_batch_by<M: Members, K: Sink>(
     members: &M,
     buf: &mut LineBuf,

@@ -1,13 +1,14 @@
 //! The lines of a run and of an exact text, and the end of any text with a line for each vertex.
 //!
-//! A call that writes clears the line buffer, fills it with a line and sends it whole. The sink takes the lines of the
-//! definition that the call names. A line of this crate has at most 106 bytes. The vertices of a group or of a reader,
-//! and the words of an opening, come on top. The buffer keeps its memory for the next line.
+//! A call that writes clears the line buffer, fills it with a line and sends it whole. In a session the lines of a
+//! phase's groups, and the lines of vertices, are sent in blocks. The sink takes the lines of the definition that the
+//! call names. A line of this crate has at most 106 bytes. The vertices of a group or of a reader, and the words of an
+//! opening, come on top. The buffer keeps its memory for the next line.
 //!
 //! After either fault the sink took a prefix of the lines.
 //!
 //! - `WriteFault`: a write to the sink failed in this call. The buffer is empty, as after success.
-//! - `Memory`: no memory for a line. The buffer may hold a part of the line, which the next call drops.
+//! - `Memory`: no memory for a line. The buffer may hold a part of the line or block, which the next call drops.
 //!
 //! Floor: documents. From above: sessions and programs write runs, notes and exact texts, each line by the call that
 //! names its definition. `specs/` has the definitions: read `Lines` first, then `VertexLines`.

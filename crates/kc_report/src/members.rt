@@ -4,6 +4,7 @@ ghost use Rattle.std.specs.List.{flat_map};
 ghost use Rattle.std.specs.Thread.{IsSync};
 ghost use Rattle.kc_report.specs.Lines.{member_word};
 
+use crate::held::BLOCK;
 use crate::pairs::{LONGEST, write_pair};
 use kc_graph::Crew;
 use kc_history::Move;
@@ -16,6 +17,9 @@ use std::thread::Threads;
 pub trait Members {
     /// What has to hold before a call.
     ghost may_fill: { Self → Type 0 };
+
+    /// Returns the number of bytes of lines of groups from which on they are sent.
+    fn block(&self) -> usize;
 
     /// Appends for each move a blank, its vertex and its new level.
     fn fill(&self, buf: &mut LineBuf, moves: &[Move]) -> Result<(), AllocError>
@@ -65,6 +69,11 @@ pub struct InTurn;
 impl Members for InTurn {
     ghost may_fill = { λ _. Unit {0} };
 
+    /// Each line is sent by itself.
+    fn block(&self) -> usize {
+        1
+    }
+
     fn fill(&self, buf: &mut LineBuf, moves: &[Move]) -> Result<(), AllocError> {
         fill_members(buf, moves)
     }
@@ -113,6 +122,11 @@ fn fill_pieces<R: Threads + Sync>(
 /// Long groups are composed in pieces, by the workers of the crew.
 impl<R: Threads + Sync> Members for Crew<'_, R> {
     ghost may_fill = { λ _. IsSync R.row };
+
+    /// Lines are sent in blocks.
+    fn block(&self) -> usize {
+        BLOCK
+    }
 
     fn fill(&self, buf: &mut LineBuf, moves: &[Move]) -> Result<(), AllocError> {
         let size = self.piece_len(moves.len(), LEAST_SHARED);

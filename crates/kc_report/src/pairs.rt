@@ -10,6 +10,7 @@ pub(crate) const LONGEST: usize = 22;
 
 /// Writes a blank, a number, a byte and a second number so that they end at `end`. Returns where they start.
 #[inline]
+#[tactic(auto, using(crate::proofs::LineLemmas::short))]
 pub fn write_pair(first: u32, between: u8, second: u32, words: &mut [u8], end: usize) -> usize
     requires { (22 ≤ end) × (end ≤ length words.old) }
     ensures start { (result ≤ end) × (end ≤ result + 22) }

@@ -5,6 +5,7 @@ ghost use Rattle.kc_groups.specs.WellFormed.{IsWellFormed};
 ghost use Rattle.kc_report.specs.Buffer.{IsCleared};
 ghost use Rattle.kc_report.specs.Lines.{direction_word, phase_line, group_line, phase_text};
 
+use crate::held::send_held;
 use crate::members::Members;
 use crate::pairs::put_pair;
 use kc_groups::PhasePlan;
@@ -33,18 +34,19 @@ fn fill_phase(buf: &mut LineBuf, plan: &PhasePlan) -> Result<(), AllocError>
     buf.put_named(direction(plan.quiet.add), quiet)
 }
 
-fn fill_group<M: Members>(members: &M, buf: &mut LineBuf, group: &Entry) -> Result<(), AllocError>
+// Appends the line of a group.
+fn append_group<M: Members>(members: &M, buf: &mut LineBuf, group: &Entry) -> Result<(), AllocError>
     requires ready { M.may_fill members.now }
     requires label { IsSome group.now.label }
-    ensures { OnOk result (buf.new ++ 10 ∷ [] ≡ group_line group.now) }
+    ensures { OnOk result (buf.new ≡ buf.old ++ group_line group.now) }
 {
-    buf.clear();
     buf.put(b"group")?;
     put_pair(buf, group.phase, b' ', group.label.unwrap())?;
-    members.fill(buf, group.moves.as_slice())
+    members.fill(buf, group.moves.as_slice())?;
+    buf.put(b"\n")
 }
 
-/// Writes the line of a phase, and those of its groups.
+/// Writes the line of a phase, and those of its groups. `members` says how many bytes of the latter are sent together.
 pub fn write_phase<M: Members, K: Sink>(
     members: &M,
     buf: &mut LineBuf,
@@ -60,9 +62,12 @@ pub fn write_phase<M: Members, K: Sink>(
 {
     fill_phase(buf, plan)?;
     buf.send_to(sink)?;
+    let block = members.block();
     for group in plan.groups.as_slice() {
-        fill_group(members, buf, group)?;
-        buf.send_to(sink)?;
+        append_group(members, buf, group)?;
+        if buf.as_bytes().len() >= block {
+            send_held(buf, sink)?;
+        }
     }
-    Ok(())
+    send_held(buf, sink)
 }

@@ -8,7 +8,7 @@ ghost use Rattle.kc_report.specs.VertexLines.{AreLevels, GivesCounts, tail_text}
 ghost use Rattle.kc_report.specs.private.LevelWords.{counted_line, AreLevelWords, AreShort};
 
 use crate::head::put_end;
-use crate::held::send_held;
+use crate::held::{BLOCK, send_held};
 use crate::level_words::{compose_words, fill_bounds};
 use itoa::write_digits;
 use kc_graph::Graph;
@@ -80,6 +80,7 @@ fn write_bytes(bytes: &[u8], line: &mut [u8], end: usize) -> usize
 }
 
 // Writes a name, with its blanks, and a number so that they end at `end`. Returns where they start.
+#[tactic(auto, using(crate::proofs::LineLemmas::short))]
 fn write_named(name: &[u8], value: u32, line: &mut [u8], end: usize) -> usize
     requires { (length name.now + 10 ≤ end) × (end ≤ length line.old) }
     ensures start { (result ≤ end) × (end ≤ result + (length name.now + 10)) }
@@ -110,10 +111,6 @@ fn append_counted(
     let start = write_named(b"vertex ", counts.v, &mut line, level);
     buf.put(&line[start..])
 }
-
-// The bytes of lines from which on they are sent. A write for each line costs a fifth of the instructions of these
-// lines.
-const BLOCK: usize = 4_096;
 
 /// Writes the end of a text of levels (`tail_text`): the line of each vertex in ascending order, and the last line.
 ///

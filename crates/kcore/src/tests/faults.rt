@@ -17,16 +17,21 @@ const OUT_AND_IN: &[u8] = b"kcore 1\nvertices 5\nbatch\n0 1\nend\nbatch\n- 0 1\n
 pub const ASKED: &[u8] =
     b"kcore 1\nvertices 5\nask 20 4 3\nbatch\n0 1\nend\nbatch\n- 0 1\n+ 0 2\nend\n";
 
+// Three groups move in one phase.
+const THREE_GROUPS: &[u8] = b"kcore 1\nvertices 6\nbatch\n0 1\n2 3\n4 5\nend\n";
+
 // The text of `run` for no batch and one reader.
 const RUN_TEXT: &[u8] = b"kcore-run 1\nvertices 1\nreader 0 0=0\n\
     vertex 0 level 0 est 0 low 0 high 0 up 0 down 0\nend\n";
 
 // A command line, its input, and the number of reads and of writes that the command makes in pieces of 7 bytes. Each
-// line is written by itself, but the lines of vertices that end `run` go together.
+// line is written by itself, with two exceptions. The lines of a phase's groups go together, and so do the lines of
+// vertices that end `run`.
 type Command = (&'static str, &'static [u8], u32, u32);
 
 const COMMANDS: &[Command] = &[
     ("run 1", OUT_AND_IN, 9, 77),
+    ("run 1", THREE_GROUPS, 7, 67),
     ("run 2", ASKED, 11, 102),
     ("final 2", ASKED, 11, 21),
     ("orient 2", ASKED, 11, 26),

@@ -3,20 +3,8 @@ use Rattle.std.proofs.lemmas.List.{drop-set}
 use Rattle.kc_report.proofs.LineLemmas.{short}
 use Rattle.kc_report.proofs.pairs.write_pair.Goals as goal
 
-pub write_digits-middle-requires : goal.write_digits-middle-requires
-write_digits-middle-requires c = omega (arith, short c.from.result (omega arith))
-
-pub overflow_sub-middle : goal.overflow_sub-middle
-overflow_sub-middle c = omega (arith, short c.from.result (omega arith))
-
 pub write_digits-start-requires : goal.write_digits-start-requires
 write_digits-start-requires c = omega (arith, short c.from.result (omega arith), short c.from-2.result (omega arith), length-set c.write_digits-middle.new.buf (c.write_digits-middle.result - 1) c.args.between)
-
-pub overflow_sub-start : goal.overflow_sub-start
-overflow_sub-start c = omega (arith, short c.from.result (omega arith), short c.from-2.result (omega arith))
-
-pub returns-clause-start : goal.returns-clause-start
-returns-clause-start c = omega (arith, short c.from.result (omega arith), short c.from-2.result (omega arith))
 
 pub returns-clause-written : goal.returns-clause-written
 returns-clause-written c =
