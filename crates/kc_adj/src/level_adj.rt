@@ -4,7 +4,7 @@
 ghost use Rattle.std.specs.Prelude.{◌≡◌, ◌+◌, ◌*◌, ◌-◌, ◌<◌, ◌≤◌, ℕ, [], OnOk, OnErr, IfOk, true, false, length, replicate, slice_index, slice_set};
 ghost use Rattle.kc_graph.specs.Shape.{EdgesFrom, IsGraph, neighbours_of, has_edge, with_edge, without_edge, with_edges, without_edges};
 ghost use Rattle.kc_graph.specs.Numbers.{has_number};
-ghost use Rattle.kc_graph.specs.Changes.{AllAbsent, AllPresent, CanRemove};
+ghost use Rattle.kc_graph.specs.Changes.{AllAbsent, AllPresent};
 ghost use Rattle.kc_levels.specs.LevelList.{at_least, IsBelow, IsDesired, IsWithinAt};
 ghost use Rattle.kc_levels.specs.Following.{AreDistinct};
 ghost use Rattle.kc_adj.specs.Degrees.{degrees};
@@ -50,21 +50,6 @@ impl Model for LevelAdj {
     ghost view = { λ a. record { graph = a.graph; levels = a.levels } };
 
     ghost invariant = { λ a. IsAdjacency a.graph a.levels a.counts.own.items a.counts.below.items };
-}
-
-// The least number of edges whose halves are worth a sort, so that the row of each vertex is passed over once.
-const LEAST_TOGETHER: usize = 2_048;
-
-// Removes the edges, one after another. Levels stay. Counts 3 steps an edge.
-fn unlink_each<L: Ledger>(adj: &mut LevelAdj, edges: &[Edge], steps: &mut Steps<L>)
-    requires removable { CanRemove adj.old.graph edges.now }
-    ensures value { adj.new ≡ record adj.old { graph = without_edges adj.old.graph edges.now } }
-    ensures cost { steps.new ≡ steps.old + 3 * length edges.now }
-{
-    for k in 0..edges.len() {
-        let e = adj.graph.edge_with_prefetch(edges, k);
-        adj.unlink(e, steps);
-    }
 }
 
 impl LevelAdj {
@@ -245,8 +230,7 @@ impl LevelAdj {
     ///
     /// Counts 3 steps an edge. Fails only if memory runs out; then all is unchanged, the steps too.
     ///
-    /// Fewer than 2,048 edges leave one after another (`unlink`), without memory. More cost what
-    /// `Graph::par_remove_all` costs. Only the time depends on the crew.
+    /// Costs what `Graph::par_remove_all` costs. Only the time depends on the crew.
     pub fn unlink_all<R: Threads + Sync, L: Ledger>(
         &mut self,
         crew: &Crew<'_, R>,
@@ -260,10 +244,6 @@ impl LevelAdj {
         ensures err { OnErr result (self.new ≡ self.old) }
         ensures steps_kept { OnErr result (steps.new ≡ steps.old) }
     {
-        if edges.len() < LEAST_TOGETHER {
-            unlink_each(self, edges, steps);
-            return Ok(());
-        }
         self.graph.par_remove_all(crew, edges)?;
         links::uncount_edges(&self.graph, &self.levels, &mut self.counts, edges);
         steps.add_edges(edges.len());

@@ -1,13 +1,14 @@
 -- Lemmas on edges that come into a graph, or leave it, one after another.
-use Rattle.std.proofs.Common.{ℕ, suc, ◌+◌, ◌≤◌, ◌<◌, ◌≡◌, inr, true, false, ◌||◌, ◌&&◌, List, [], ◌∷◌, ◌++◌, length, refl, ap, sym, ◌∙◌, arith, append_assoc, subst}
+use Rattle.std.proofs.Common.{ℕ, zero, suc, ◌+◌, ◌≤◌, ◌<◌, ◌≡◌, inr, Bool, true, false, ◌||◌, ◌&&◌, List, [], ◌∷◌, ◌++◌, length, take, refl, ap, sym, ◌∙◌, arith, append_assoc, subst}
 use Rattle.std.proofs.lemmas.Bool.Decides.{nat_tests}
 use Rattle.std.proofs.lemmas.List.{append-nil}
-use Rattle.std.proofs.lemmas.List.Elements.{All-cons, All-head, All-tail, All-nil}
+use Rattle.std.proofs.lemmas.List.Elements.{All-cons, All-head, All-tail, All-nil, All-take}
 use Rattle.std.specs.Prelude.{All, not}
 use Rattle.kc_graph.specs.declared.limits.TheConstants.{MAX_EDGES}
 use Rattle.kc_graph.specs.Shape.{GraphShape, Pair, IsNotBefore, EdgesFrom, IsGraph, same_edge, has_edge, insert_edge, remove_edge, with_edge, without_edge, with_edges, without_edges}
 use Rattle.kc_graph.specs.Changes.{CanAdd, CanRemove, AllAbsent, AllPresent}
-use Rattle.kc_graph.proofs.EdgeLemmas.{not_before_first, has_edge-insert_edge, has_edge-remove_edge, edges_from_insert, edges_from_remove, length-insert_edge, length-remove_edge, insert_edge_last}
+use Rattle.kc_graph.proofs.EdgeLemmas.{not_before_first, has_edge-insert_edge, has_edge-remove_edge, edges_from_insert, edges_from_remove, length-insert_edge, length-remove_edge, insert_edge_last, same_graph}
+use Rattle.kc_graph.proofs.EdgeListLemmas.{all_there, all_at}
 
 -- an edge of ascending edges that begin after e is another
 other_edge : (c d : ℕ) (e f : Pair) → IsNotBefore e.0 (suc e.1) (c, d) → IsNotBefore c d f → same_edge f e ≡ false
@@ -103,6 +104,35 @@ is_graph-with_edges g (e ∷ es) graph inside =
 pub is_graph-without_edges : (g : GraphShape) (es : List Pair) → IsGraph g → IsGraph (without_edges g es)
 is_graph-without_edges g [] graph = graph
 is_graph-without_edges g (e ∷ es) graph = is_graph-without_edges (without_edge g e) es (is_graph-without_edge g e graph)
+
+pub with_edges-append : (g : GraphShape) (es fs : List Pair) → with_edges g (es ++ fs) ≡ with_edges (with_edges g es) fs
+with_edges-append g [] fs = refl
+with_edges-append g (e ∷ es) fs = with_edges-append (with_edge g e) es fs
+
+edges_from_take : (n a b k : ℕ) (es : List Pair) → EdgesFrom n a b es → EdgesFrom n a b (take k es)
+edges_from_take n a b zero es up = tt
+edges_from_take n a b (suc k) [] up = tt
+edges_from_take n a b (suc k) (e ∷ es) up = (up.0, up.1, up.2, edges_from_take n e.0 (suc e.1) k es up.3)
+
+-- the first of ascending edges that were not there came in
+module _ (g : GraphShape) (k : ℕ) (es : List Pair) (up : EdgesFrom g.vertices 0 0 es) where
+  first : EdgesFrom g.vertices 0 0 (take k es)
+  first = edges_from_take g.vertices 0 0 k es up
+
+  pub first_may_leave : CanRemove (with_edges g (take k es)) (take k es)
+  first_may_leave = can_remove_ascending _ 0 0 (take k es) (rw (vertices-with_edges g (take k es)) first) (all_there (take k es) (λ e. has_edge e (with_edges g (take k es)).edges ≡ true) (λ e h. has_edge-with_edges e g (take k es) ∙ rw h refl))
+
+  pub first_left : IsGraph g → AllAbsent g es → without_edges (with_edges g (take k es)) (take k es) ≡ g
+  first_left graph absent =
+      let came = is_graph-with_edges g (take k es) graph (inside_from_ascending g.vertices 0 0 (take k es) first) in
+      same_graph (without_edges (with_edges g (take k es)) (take k es)) g (is_graph-without_edges _ (take k es) came) graph (vertices-without_edges _ (take k es) ∙ vertices-with_edges g (take k es)) (λ e.
+      has_edge-without_edges e (with_edges g (take k es)) (take k es)
+      ∙ ap (λ b. not (has_edge e (take k es)) && b) (has_edge-with_edges e g (take k es))
+      ∙ back (has_edge e (take k es)) (has_edge e g.edges) (all_at (take k es) (λ f. has_edge f g.edges ≡ false) (All-take (λ f. has_edge f g.edges ≡ false) k es absent) e))
+    where
+      back : (b c : Bool) → (b ≡ true → c ≡ false) → (not b && (b || c)) ≡ c
+      back true c h = rw (h refl) refl
+      back false c h = refl
 
 -- ascending edges come in after those before them
 pub added_behind : (n : ℕ) (before es : List Pair) → EdgesFrom n 0 0 (before ++ es) → with_edges (record { vertices = n; edges = before }) es ≡ record { vertices = n; edges = before ++ es }

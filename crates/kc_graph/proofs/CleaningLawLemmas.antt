@@ -2,35 +2,24 @@
 use Rattle.std.proofs.Common.{ℕ, ◌<◌, ◌≡◌, Bool, true, false, ◌||◌, ◌&&◌, List, [], ◌∷◌, refl, ap, sym, ◌∙◌, arith, subst}
 use Rattle.std.proofs.lemmas.Bool.{and_parts, not-true}
 use Rattle.std.proofs.lemmas.Bool.Decides.{nat_tests}
-use Rattle.std.proofs.lemmas.List.Elements.{All-nil, All-cons, All-head, All-tail, All-weaker, All-filter, filter_passes}
+use Rattle.std.proofs.lemmas.List.Elements.{All-head, All-tail, All-weaker, All-filter, filter_passes}
 use Rattle.std.specs.Prelude.{All, not, Option, Some, None}
 use Rattle.kc_graph.specs.declared.items.Item.{Item}
 use Rattle.kc_graph.specs.declared.items.Item.TheVariants.{Insert, Delete, Isolate}
-use Rattle.kc_graph.specs.Shape.{GraphShape, Pair, EdgesFrom, IsGraph, same_edge, has_edge, with_edges, without_edges}
+use Rattle.kc_graph.specs.Shape.{GraphShape, Pair, EdgesFrom, IsGraph, has_edge, with_edges, without_edges}
 use Rattle.kc_graph.specs.Changes.{AllAbsent, AllPresent}
 use Rattle.kc_graph.specs.Cleaning.{IsInside, is_loop, proper_items, holds, is_touched, deciding_item, takes_out, is_insertion, inserted_pairs, added_edges, cleaned}
 use Rattle.kc_graph.specs.CleaningLaws.{FitsGraph, after_item, after_items}
 use Rattle.kc_graph.proofs.EdgeLemmas.{has_edge-insert_edge, has_edge-remove_edge, same_graph}
 use Rattle.kc_graph.proofs.ChangeLemmas.{can_add_ascending, can_remove_ascending, vertices-with_edges, vertices-without_edges, has_edge-with_edges, has_edge-without_edges, length-without_edges, is_graph-with_edge, is_graph-without_edge, inside_from_ascending, is_graph-with_edges, is_graph-without_edges}
-use Rattle.kc_graph.proofs.EdgeListLemmas.{has_edge-filter, edges_from_filter}
+use Rattle.kc_graph.proofs.EdgeListLemmas.{has_edge-filter, edges_from_filter, all_there}
 use Rattle.kc_graph.proofs.BatchLemmas.{deciding_none, inserted_if_decided, edges_from_inserted}
 
 -- the lists fit the graph
 
--- each edge of a list is in it, and in a longer one
-all_there : (es fs : List Pair) → ((e : Pair) → has_edge e es ≡ true → has_edge e fs ≡ true) → All (λ e. has_edge e fs ≡ true) es
-all_there [] fs more = All-nil (λ (e : Pair). has_edge e fs ≡ true)
-all_there (e ∷ es) fs more =
-    All-cons (λ (f : Pair). has_edge f fs ≡ true) e es (more e (grind (arith, nat_tests)))
-    (all_there es fs (λ f h. more f (rw h (or_true (same_edge f e)))))
-  where
-    or_true : (b : Bool) → (b || true) ≡ true
-    or_true true = refl
-    or_true false = refl
-
 removed_is_present : (g : GraphShape) (items : List Item) → AllPresent g (cleaned g items).removed
 removed_is_present g items =
-    All-filter (λ e. takes_out (deciding_item e (proper_items items))) (λ e. has_edge e g.edges ≡ true) g.edges (all_there g.edges g.edges (λ e h. h))
+    All-filter (λ e. takes_out (deciding_item e (proper_items items))) (λ e. has_edge e g.edges ≡ true) g.edges (all_there g.edges (λ e. has_edge e g.edges ≡ true) (λ e h. h))
 
 added_is_absent : (g : GraphShape) (items : List Item) → AllAbsent g (cleaned g items).added
 added_is_absent g items =

@@ -1,18 +1,17 @@
 -- The rows of a graph after both halves of some edges came in, or left.
 use Rattle.std.proofs.Common.{ℕ, suc, ◌+◌, ◌-◌, ◌≤◌, ◌<◌, ◌≡◌, Bool, true, false, ◌||◌, ◌&&◌, List, [], ◌∷◌, length, get_or, refl, ap, sym, ◌∙◌, arith, subst, true≢false}
 use Rattle.std.proofs.lemmas.List.{ext_get_or}
-use Rattle.std.proofs.lemmas.List.Elements.{All-head, All-tail}
-use Rattle.std.specs.Prelude.{All, not}
+use Rattle.std.specs.Prelude.{not}
 use Rattle.std.proofs.lemmas.Bool.Decides.{nat_tests}
 use Rattle.kc_graph.specs.Numbers.{RisesFrom, has_number}
-use Rattle.kc_graph.specs.Shape.{GraphShape, Pair, EdgesFrom, same_edge, has_edge, joined, insert_edge, remove_edge, with_edges, without_edges}
+use Rattle.kc_graph.specs.Shape.{GraphShape, Pair, EdgesFrom, has_edge, joined, insert_edge, remove_edge, with_edges, without_edges}
 use Rattle.kc_graph.specs.Changes.{CanAdd, CanRemove, AllAbsent}
 use Rattle.kc_graph.specs.KeptRows.{edges_of, IsKept}
 use Rattle.kc_graph.specs.private.KeptRows.{rows_joined, rows_parted}
 use Rattle.kc_graph.specs.private.Halves.{AreGiven, AreGivenSome, AreTaken}
 use Rattle.kc_graph.proofs.NumberLemmas.{same_rising}
 use Rattle.kc_graph.proofs.EdgeLemmas.{has_edge_turned, joined_inside}
-use Rattle.kc_graph.proofs.EdgeListLemmas.{edge_is}
+use Rattle.kc_graph.proofs.EdgeListLemmas.{all_at}
 use Rattle.kc_graph.proofs.NeighbourLemmas.{has_number-neighbours_of, neighbours_rise}
 use Rattle.kc_graph.proofs.ChangeLemmas.{has_edge-with_edges, has_edge-without_edges, vertices-with_edges, vertices-without_edges}
 use Rattle.kc_graph.proofs.KeptLemmas.{edges_of-joined, kept_joined, edges_of-parted, kept_parted, some_edge}
@@ -128,14 +127,6 @@ module _ (n count : ℕ) (rows new : List (List ℕ)) (es halves : List Pair) (k
   pub no_more_edges : CanRemove (graph_of n rows) es → length es ≤ count
   no_more_edges can = (parts_kept n count 0 0 rows es kept up can).2
 
-  absent_at : (fs : List Pair) → All (λ f. has_edge f (edges_of 0 rows) ≡ false) fs → (e : Pair) → has_edge e fs ≡ true → has_edge e (edges_of 0 rows) ≡ false
-  absent_at [] absent e there = absurd (cc)
-  absent_at (f ∷ fs) absent e there = go (same_edge e f) refl there (absent_at fs (All-tail (λ f. has_edge f (edges_of 0 rows) ≡ false) f fs absent) e)
-    where
-      go : (b : Bool) → same_edge e f ≡ b → (b || has_edge e fs) ≡ true → (has_edge e fs ≡ true → has_edge e (edges_of 0 rows) ≡ false) → has_edge e (edges_of 0 rows) ≡ false
-      go true is t rest = rw (edge_is e f is) (All-head (λ f. has_edge f (edges_of 0 rows) ≡ false) f fs absent)
-      go false is t rest = rest t
-
   -- what came in of edges that were not there, and left again
   pub undone_all : (some : List (List ℕ)) → AreGivenSome 0 rows some halves → AreTaken 0 some new halves → AllAbsent (graph_of n rows) es → new ≡ rows
   undone_all some given taken absent = same_rows n new rows (taken.sized ∙ given.sized ∙ kept.sized) kept.sized (λ v h. taken.rise v (omega (arith, kept.sized, given.sized, h)) (given.rise v (omega (arith, kept.sized, h)) (rows_rise n count rows kept v h))) (rows_rise n count rows kept) (λ v x h.
@@ -154,7 +145,7 @@ module _ (n count : ℕ) (rows new : List (List ℕ)) (es halves : List Pair) (k
       back false false false kept only apart = refl
 
       lone : (e : Pair) → has_edge e (edges_of 0 rows) ≡ true → (b : Bool) → has_edge e es ≡ b → has_edge e es ≡ false
-      lone e there true is = absurd (true≢false (sym there ∙ absent_at es absent e is))
+      lone e there true is = absurd (true≢false (sym there ∙ all_at es (λ f. has_edge f (edges_of 0 rows) ≡ false) absent e is))
       lone e there false is = is
 
       apart : (v x : ℕ) → joined v x (edges_of 0 rows) ≡ true → joined v x es ≡ false

@@ -25,7 +25,7 @@ use Rattle.kc_graph.specs.Keys.{edge_of, removes, adds, decided}
 use Rattle.kc_graph.specs.private.Later.{is_noted, is_free_at, isolated, untouched_at, IsOnce, IsProperEffect, IsNetEffect}
 use Rattle.kc_graph.proofs.CountLemmas.{count_by-cons}
 use Rattle.kc_graph.proofs.EdgeLemmas.{not_before_first, has_edge_before, edge_inside, same_edges}
-use Rattle.kc_graph.proofs.EdgeListLemmas.{edge_is, has_edge-filter, edges_from_filter}
+use Rattle.kc_graph.proofs.EdgeListLemmas.{edge_is, has_edge-filter, edges_from_filter, all_there}
 use Rattle.kc_graph.proofs.DecidingLemmas.{list_any_agree}
 use Rattle.kc_graph.proofs.BatchLemmas.{deciding_none, inserted_if_decided, edges_from_inserted, key_touches, key_repeats, key_is_idle, key_inserts, inserts}
 use Rattle.kc_graph.proofs.KeyLemmas.{key_found}
@@ -131,15 +131,6 @@ edges_from_ascend n c d (e ∷ es) up once inside from =
   where
     fewer : IsOnce es
     fewer f = omega (arith, count_by-cons (same_edge f) e es, once f)
-
-all_there : (es : List Pair) (P : Pair → Type 0) → ((e : Pair) → has_edge e es ≡ true → P e) → All P es
-all_there [] P there = All-nil P
-all_there (e ∷ es) P there =
-    All-cons P e es (there e (grind (arith, nat_tests))) (all_there es P (λ f h. there f (rw h (or_true (same_edge f e)))))
-  where
-    or_true : (b : Bool) → (b || true) ≡ true
-    or_true true = refl
-    or_true false = refl
 
 -- edges in any order, each once, are an ascending list once they are sorted
 pub sorted_edges : (n : ℕ) (es fs gs : List Pair) → IsOnce es → IsPermutation es fs → IsSorted pair_cmp fs → EdgesFrom n 0 0 gs → ((e : Pair) → has_edge e es ≡ has_edge e gs) → fs ≡ gs

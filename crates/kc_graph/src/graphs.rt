@@ -3,7 +3,7 @@
 ghost use Rattle.std.specs.Prelude.{◌≡◌, ℕ, ◌+◌, ◌<◌, ◌≤◌, [], get_or, length, slice_index, false, true, All, IfOk, OnOk, OnErr};
 ghost use Rattle.kc_graph.specs.Numbers.{RisesFrom};
 ghost use Rattle.kc_graph.specs.Shape.{GraphShape, EdgesFrom, IsGraph, neighbours_of, has_edge, with_edge, without_edge, with_edges, without_edges};
-ghost use Rattle.kc_graph.specs.Changes.{AllAbsent, AllPresent};
+ghost use Rattle.kc_graph.specs.Changes.{AllAbsent, AllPresent, CanRemove};
 
 use crate::crew::Crew;
 use crate::edges::Edge;
@@ -19,6 +19,9 @@ use std::thread::Threads;
 
 /// The number of rows that are prefetched together.
 pub(crate) const TOGETHER: usize = 16;
+
+// The least number of edges whose halves are worth a sort, so that the row of each vertex is gone through once.
+const LEAST_SORTED: usize = 2_048;
 
 /// A graph on the vertices 0 to n - 1, without loops, each edge once.
 ///
@@ -132,26 +135,6 @@ impl Graph {
         v
     }
 
-    /// Returns `edges[place]`, for loops over edges that come in or leave one by one. At every 16th place it prefetches
-    /// the rows of both ends of the next 16 edges (`prefetch_row`).
-    pub fn edge_with_prefetch(&self, edges: &[Edge], place: usize) -> Edge
-        requires { place < length edges.now }
-        ensures { result ≡ get_or edges.now place (0, 0) }
-    {
-        let e = edges[place];
-        if place % TOGETHER > 0 {
-            return e;
-        }
-        for k in place..edges.len().min(place + TOGETHER) {
-            let near = edges[k];
-            if !(self.prefetch_row(near.a) && self.prefetch_row(near.b)) {
-                // Never: `prefetch_row` always returns true.
-                return near;
-            }
-        }
-        e
-    }
-
     /// Puts in an edge that isn't there (`with_edge`). Fewer than `MAX_EDGES` edges are there before.
     ///
     /// Fails only if memory runs out; the graph is then unchanged. The memory comes from the allocator of `new`.
@@ -206,14 +189,66 @@ impl Graph {
         Ok(())
     }
 
+    // Returns `edges[place]`, for loops over edges that come in or leave one by one. At every 16th place it prefetches
+    // the rows of both ends of the next 16 edges (`prefetch_row`).
+    fn edge_with_prefetch(&self, edges: &[Edge], place: usize) -> Edge
+        requires { place < length edges.now }
+        ensures { result ≡ get_or edges.now place (0, 0) }
+    {
+        let e = edges[place];
+        if place % TOGETHER > 0 {
+            return e;
+        }
+        for k in place..edges.len().min(place + TOGETHER) {
+            let near = edges[k];
+            if !(self.prefetch_row(near.a) && self.prefetch_row(near.b)) {
+                // Never: `prefetch_row` always returns true.
+                return near;
+            }
+        }
+        e
+    }
+
+    // Does what `par_insert_all` does, one edge after another. Takes no memory but that of rows.
+    fn insert_each(&mut self, alloc: Global, edges: &[Edge]) -> Result<(), AllocError>
+        requires ascending { EdgesFrom self.old.vertices 0 0 edges.now }
+        requires absent { AllAbsent self.old edges.now }
+        requires room { length self.old.edges + length edges.now ≤ MAX_EDGES }
+        ensures ok { OnOk result (self.new ≡ with_edges self.old edges.now) }
+        ensures err { OnErr result (self.new ≡ self.old) }
+    {
+        // Evidence for the check: the edges of the graph ascend.
+        let _n = self.vertices();
+        for k in 0..edges.len() {
+            let e = self.edge_with_prefetch(edges, k);
+            if let Err(error) = self.insert(alloc, e) {
+                self.remove_each(&edges[..k]);
+                return Err(error);
+            }
+        }
+        Ok(())
+    }
+
+    // Takes out edges that are there, one after another.
+    fn remove_each(&mut self, edges: &[Edge])
+        requires { CanRemove self.old edges.now }
+        ensures { self.new ≡ without_edges self.old edges.now }
+    {
+        for k in 0..edges.len() {
+            let e = self.edge_with_prefetch(edges, k);
+            self.remove(e);
+        }
+    }
+
     /// Does what `insert_all` does, with the threads of the crew if the edges are many, each at rows of its own. The
     /// graph doesn't depend on them.
     ///
     /// Fails only if memory runs out; the graph is then unchanged.
     ///
-    /// Costs what `insert_all` costs, but threads share the passes over neighbours. From 4,096 edges on there are two
-    /// of them, and up to one a worker with 2,048 edges for each. To share the passes costs a few passes over the
-    /// pairs. From 65,536 edges on threads share the sort too.
+    /// Fewer than 2,048 edges come in one after another, and cost what `insert` costs for each. More cost what
+    /// `insert_all` costs, but threads share the passes over neighbours. From 4,096 edges on there are two of them, and
+    /// up to one a worker with 2,048 edges for each. To share the passes costs a few passes over the pairs. From 65,536
+    /// edges on threads share the sort too.
     pub fn par_insert_all<R: Threads + Sync>(
         &mut self,
         crew: &Crew<'_, R>,
@@ -225,6 +260,9 @@ impl Graph {
         ensures ok { OnOk result (self.new ≡ with_edges self.old edges.now) }
         ensures err { OnErr result (self.new ≡ self.old) }
     {
+        if edges.len() < LEAST_SORTED {
+            return self.insert_each(crew.alloc, edges);
+        }
         let greater = greater_halves_by(crew, edges)?;
         let halves = Halves::of(&greater, edges);
         if let Err(error) = give_by(crew, halves, &mut self.rows) {
@@ -240,7 +278,8 @@ impl Graph {
     ///
     /// Fails only if memory runs out; the graph is then unchanged.
     ///
-    /// Costs a sort of one pair an edge, for which it takes memory. Each vertex that loses neighbours costs at most one
+    /// Fewer than 2,048 edges leave one after another, without memory, and cost what `remove` costs for each. More cost
+    /// a sort of one pair an edge, for which it takes memory. Each vertex that loses neighbours then costs at most one
     /// pass over its old neighbours. If it loses few of many, it costs a binary search for each and one move of those
     /// that stay. Threads share these passes and the sort as in `par_insert_all`.
     pub fn par_remove_all<R: Threads + Sync>(
@@ -253,6 +292,10 @@ impl Graph {
         ensures ok { OnOk result (self.new ≡ without_edges self.old edges.now) }
         ensures err { OnErr result (self.new ≡ self.old) }
     {
+        if edges.len() < LEAST_SORTED {
+            self.remove_each(edges);
+            return Ok(());
+        }
         let greater = greater_halves_by(crew, edges)?;
         let halves = Halves::of(&greater, edges);
         take_by(crew, halves, &mut self.rows);

@@ -11,10 +11,7 @@ use std::alloc::AllocError;
 use std::sync::ledger::Ledger;
 use std::thread::Threads;
 
-// The least number of edges whose halves are worth a sort, so that the row of each vertex is gone through once.
-const LEAST_TOGETHER: usize = 2_048;
-
-/// Links the edges, which ascend: one after another, or many of them by the workers of `rounds`. Levels stay. Counts 3
+/// Links the edges, which ascend; the workers of `rounds` do it if they are many (`link_all`). Levels stay. Counts 3
 /// steps for each edge.
 ///
 /// Fails only if memory runs out; the graph is then unspecified.
@@ -30,14 +27,6 @@ pub fn link_edges<R: Threads + Sync, G: Gate + Sync, L: Ledger>(
     ensures value { OnOk result (adj.new ≡ record adj.old { graph = with_edges adj.old.graph added.now }) }
     ensures cost { OnOk result (steps.new ≡ steps.old + 3 * length added.now) }
 {
-    if added.len() < LEAST_TOGETHER {
-        for k in 0..added.len() {
-            let e = adj.graph().edge_with_prefetch(added, k);
-            adj.link(rounds.alloc(), e, steps)?;
-        }
-        return Ok(());
-    }
     let crew = Crew::new(rounds.runtime(), rounds.alloc(), rounds.workers());
-    adj.link_all(&crew, added, steps)?;
-    Ok(())
+    adj.link_all(&crew, added, steps)
 }

@@ -7,6 +7,9 @@ use Rattle.kc_graph.proofs.ChangeLemmas.{can_remove_ascending}
 use Rattle.kc_graph.proofs.GivenLemmas.{graph_of, halves_inside, kept_taken, graph_taken, no_more_edges}
 use Rattle.kc_graph.proofs.graphs.Graph.par_remove_all.Goals as goal
 
+pub remove_each-requires : goal.remove_each-requires
+remove_each-requires g c = can_remove_ascending _ 0 0 c.args.edges.now c.requires.ascending c.requires.present
+
 pub take_by-requires-after_bounds : goal.take_by-requires-after_bounds
 take_by-requires-after_bounds g c κs within = λ v x there.
     let up : EdgesFrom c.self.inside.n 0 0 c.args.edges.now = rw (← c.self.view_is) at c.requires.ascending in
