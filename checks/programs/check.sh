@@ -10,8 +10,8 @@ program=$(realpath "$1") || exit 1
 kserve=$(realpath "$2") || exit 1
 here=$(realpath "$(dirname "$0")") || exit 1
 cd "$here/../../examples" || exit 1
-out=$(mktemp) && err=$(mktemp) && long=$(mktemp) && strip=$(mktemp) || exit 1
-trap 'rm -f "$out" "$out.svg" "$err" "$long" "$strip"' EXIT
+out=$(mktemp) && err=$(mktemp) && long=$(mktemp) && turns=$(mktemp) && strip=$(mktemp) || exit 1
+trap 'rm -f "$out" "$out.svg" "$err" "$long" "$turns" "$strip"' EXIT
 failed=0
 wrong() { echo "checks/programs/check.sh: $1"; failed=1; }
 
@@ -110,16 +110,20 @@ printf 'kcore 1\nvertices 5\nask 65536 0\n' | "$program" run 1 >"$out"
 sed '/^reader 0/s/=0$/=1/' "$out" | "$program" audit | grep -qx 'unexplained reader 0 ask 65536' || wrong "a reader with 65536 questions: its last reply"
 
 # Lists that are long enough to go to threads. In the first batch 24,576 vertices begin to rise at once, in the second
-# 49,152 that have a neighbour above them. Then a strip of vertices comes in, and goes out again. In the strip each
-# vertex is joined to the next two.
+# 49,152 that have a neighbour above them. In `turns` a long batch cuts the vertices into ranges, 45 short ones make one
+# range of them again, and so on. With one worker they stay one range. Then a strip of vertices comes in, and goes out
+# again. In the strip each vertex is joined to the next two.
 awk 'function pairs(n, further) { for (v = 0; v < n; v++) print v, v + further }
   BEGIN { print "kcore 1\nvertices 73728\nbatch"; pairs(12288, 12288); print "end\nbatch"; pairs(24576, 24576); pairs(24576, 49152); print "end" }' >"$long"
+awk 'function joins(sign, from, to, further) { print "batch"; for (v = from; v < to; v++) { print sign, v, v + further; print sign, v, v + further + 1 } print "end" }
+  function turn(further) { joins("+", 0, 30000, further); joins("-", 3000, 6000, further); for (i = 0; i < 45; i++) joins("+", 700 * i, 700 * i + 3, further + 2); joins("-", 9000, 12000, further) }
+  BEGIN { print "kcore 1\nvertices 40000"; turn(1); turn(5); turn(9); joins("+", 5000, 35000, 13) }' >"$turns"
 awk 'function strip(sign) { print "batch"; for (v = 0; v + 2 < 140000; v++) { print sign, v, v + 1; print sign, v, v + 2 } print "end" }
   BEGIN { print "kcore 1\nvertices 140000"; strip("+"); strip("-") }' >"$strip"
-for input in "$long" "$strip"; do
+for input in "$long" "$turns" "$strip"; do
   "$program" run 1 <"$input" >"$err"
   [ $? = 0 ] && [ "$(tail -n 1 "$err")" = end ] || wrong "long lists: no text by run 1"
-  for workers in 2 3 64; do
+  for workers in 2 3 4 64; do
     "$program" run $workers <"$input" | cmp -s - "$err" || wrong "long lists: another text by run $workers than by run 1"
   done
 done

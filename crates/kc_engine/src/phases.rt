@@ -148,6 +148,7 @@ impl PhasedGraph {
         let edges = added.as_slice();
         let mut steps = Steps::<L>::new(blank);
         let insertion = &mut work.insertion;
+        insertion.adapt(rounds, th, adj, edges)?;
         let moves = insert_phase(rounds, th, adj, insertion, edges, &mut steps)?;
         // The workspace of deletions follows what the insertions changed, and so stays ready.
         work.deletion.follow(&moves);

@@ -5,7 +5,7 @@ ghost use Rattle.kc_engine.specs.Readiness.{AreReady};
 use kc_adj::LevelAdj;
 use kc_delete::DeletionWork;
 use kc_groups::GroupWork;
-use kc_insert::InsertionWork;
+use kc_insert::{InsertionWork, Layout};
 use kc_levels::Thresholds;
 use std::alloc::{AllocError, Global};
 
@@ -33,7 +33,7 @@ impl PhaseWork {
     {
         Ok(PhaseWork {
             deletion: DeletionWork::new(alloc, adj)?,
-            insertion: InsertionWork::new(alloc, th, adj)?,
+            insertion: InsertionWork::with_layout(alloc, th, adj, Layout::whole())?,
             groups: GroupWork::new(alloc, adj.graph().vertices())?,
         })
     }

@@ -44,9 +44,10 @@ pub struct Tally {
 /// `adj` after the sweep.
 ///
 /// One sweep goes through the levels, from the lowest up, and stops at each where a vertex waits, is met or may stay.
-/// Threads sweep ranges of vertices if the graph has at least 32,768 vertices and much is to do on a level. At least
-/// 4,096 vertices begin or stay there then; a quarter of the meetings counts with these. There is one thread for each
-/// 2,048 of them, and at most one for each range and for each worker of `rounds`. Else the caller sweeps the ranges.
+/// Threads sweep ranges of vertices if `work` has several (`InsertionWork::adapt`) and much is to do on a level. At
+/// least 4,096 vertices begin or stay there then; a quarter of the meetings counts with these. There is one thread for
+/// each 2,048 of them, and at most one for each range and for each worker of `rounds`. Else the caller sweeps the
+/// ranges.
 ///
 /// The first list of candidates in the life of `work` that isn't empty is cut into as many pieces as there are workers.
 /// If it is short, there are fewer. The gate hears of each piece. No answer depends on the workers nor on the gate.

@@ -17,6 +17,9 @@ const MOST_RANGES: u32 = 64;
 // The fewest vertices that are cut.
 const LEAST_CUT: u32 = 32_768;
 
+// The fewest vertices that are cut for one worker. What a range writes stays in the near cache then.
+const LEAST_ALONE: u32 = 262_144;
+
 // The fewest vertices, to begin or to stay, for which threads are made. To make four takes as long as to go through the
 // rows of a thousand vertices.
 const LEAST_SHARED: usize = 4_096;
@@ -54,12 +57,17 @@ impl Layout {
         Layout { bits, least_shared }
     }
 
+    /// Makes one range of all vertices.
+    pub fn whole() -> Self {
+        Layout::new(MOST_BITS, LEAST_SHARED)
+    }
+
     /// Makes one range of fewer than 32,768 vertices. Else makes 4 to 64, of at most 65,536 vertices each, or of more
     /// from 4,194,304 on.
     pub fn of(n: u32) -> Self {
         let mut bits = 0;
         if n < LEAST_CUT {
-            return Layout::new(MOST_BITS, LEAST_SHARED);
+            return Layout::whole();
         }
         while bits < WIDEST && n >> (bits + 1) >= FEWEST_RANGES {
             bits += 1;
@@ -68,6 +76,15 @@ impl Layout {
             bits += 1;
         }
         Layout::new(bits, LEAST_SHARED)
+    }
+
+    /// Makes the ranges for a long phase, as `of` does. Makes one range if one worker has fewer than 262,144 vertices.
+    pub(crate) fn for_workers(n: u32, workers: u32) -> Self {
+        if workers < 2 && n < LEAST_ALONE {
+            Layout::whole()
+        } else {
+            Layout::of(n)
+        }
     }
 
     /// Returns the number of ranges of n vertices.

@@ -1,7 +1,7 @@
 //! The workspace that insertion phases share, one after another.
 
-ghost use Rattle.std.specs.Prelude.{◌≡◌, ◌+◌, ◌<◌, ℕ, All, IfOk, OnOk, length};
-ghost use Rattle.kc_levels.specs.LevelList.{IsBelow};
+ghost use Rattle.std.specs.Prelude.{◌≡◌, ◌+◌, ◌<◌, ℕ, All, IfOk, OnErr, OnOk, length};
+ghost use Rattle.kc_levels.specs.LevelList.{IsBelow, IsWithin};
 ghost use Rattle.kc_levels.specs.Moved.{moves_between};
 ghost use Rattle.kc_insert.specs.private.Ranges.{Forgot};
 ghost use Rattle.kc_insert.specs.Ranges.{IsIn};
@@ -23,6 +23,12 @@ use std::marker::Model;
 use std::sync::ledger::Ledger;
 use std::thread::Threads;
 
+// The fewest edges of a long phase.
+const LONG_PHASE: usize = 4_096;
+
+// For so many vertices the ranges stay for one more short phase.
+const SHORT_SHARE: u32 = 1_024;
+
 /// What insertion phases work with, kept between them, so that a phase costs what it changes and not what the graph
 /// has.
 ///
@@ -33,6 +39,8 @@ use std::thread::Threads;
 pub struct InsertionWork {
     // How far the sweep of the phase has come. Between phases no vertex rises, waits or is to be met.
     pub(crate) sweep: Sweep,
+    // How many short phases in a row `adapt` has counted, at most until the vertices are one range again.
+    short_phases: u32,
 }
 
 impl Model for InsertionWork {
@@ -76,7 +84,48 @@ impl InsertionWork {
                 ranges: Ranges::new(alloc, layout, adj.own_counts(), th.top() + 1)?,
                 first: FirstRound::new(),
             },
+            short_phases: 0,
         })
+    }
+
+    /// Cuts the vertices into the ranges that fit a phase with these edges. The workspace stays ready for the graph.
+    ///
+    /// Ranges let threads share a long phase, and cost a short one more than they save. The first long phase, of at
+    /// least 4,096 edges, cuts the vertices as `Layout::of` does. With one worker it does so from 262,144 vertices on.
+    /// They are one range again after more short phases in a row than one for each 1,024 vertices. So going back costs
+    /// no more than was saved.
+    ///
+    /// If the ranges become others, this costs a pass over the vertices, and for each range one over the levels up to
+    /// the top. The old ranges are given back after the new ones are made. Fails only if memory runs out; the workspace
+    /// is then as before.
+    pub fn adapt<R: Threads + Sync, G: Gate + Sync>(
+        &mut self,
+        rounds: &Rounds<R, G>,
+        th: &Thresholds,
+        adj: &LevelAdj,
+        edges: &[Edge],
+    ) -> Result<(), AllocError>
+        requires within { IsWithin th.now adj.now.graph adj.now.levels }
+        requires ready { IsReady th.now.profile adj.now self.old }
+        ensures ready { IsReady th.now.profile adj.now self.new }
+        ensures fault { OnErr result (self.new ≡ self.old) }
+    {
+        let n = adj.graph().vertices();
+        let layout = if edges.len() >= LONG_PHASE {
+            self.short_phases = 0;
+            Layout::for_workers(n, rounds.workers())
+        } else if self.short_phases < n / SHORT_SHARE {
+            self.short_phases += 1;
+            return Ok(());
+        } else {
+            Layout::whole()
+        };
+        if layout == self.sweep.ranges.layout {
+            return Ok(());
+        }
+        let levels = th.top() + 1;
+        self.sweep.ranges = Ranges::new(rounds.alloc(), layout, adj.own_counts(), levels)?;
+        Ok(())
     }
 
     /// Makes the workspace ready for the graph after a deletion phase, if it was ready before (`StaysReady`). The edges
