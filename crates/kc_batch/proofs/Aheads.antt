@@ -1,22 +1,17 @@
 -- Lines that are read ahead, and the batches after them.
-use Rattle.std.proofs.Common.{ℕ, ◌≡◌, ◌∙◌, Bool, true, List, [], ◌∷◌, ◌++◌, refl, nat_le, length, arith}
-use Rattle.std.specs.Prelude.{Option}
-use Rattle.std.specs.Option.{option_map}
+use Rattle.std.proofs.Common.{ℕ, ◌≡◌, Bool, true, List, [], ◌∷◌, ◌++◌, refl, nat_le, length, arith}
 use Rattle.std.proofs.lemmas.Bool.Decides.{nat_tests}
 use Rattle.kc_graph.specs.Cleaning.{IsInside}
 use Rattle.kc_graph.specs.declared.items.Item.{Item}
 use Rattle.kc_graph.specs.declared.items.Item.TheVariants.{Insert, Delete, Isolate}
-use Rattle.kc_text.specs.Reading.{Reading}
 use Rattle.kc_batch.specs.declared.rules.Rules.{Rules}
 use Rattle.kc_batch.specs.declared.token.Token.{Token}
 use Rattle.kc_batch.specs.declared.token.Kind.TheVariants as kind
 use Rattle.kc_batch.specs.declared.turn.Turn.TheVariants.{Add}
-use Rattle.kc_batch.specs.private.Adding.{Adds}
 use Rattle.kc_batch.specs.private.Tokens.{onto_token}
 use Rattle.kc_batch.specs.Turns.{is_inside, turn_of}
-use Rattle.kc_batch.specs.Tokens.{tokens_left}
-use Rattle.kc_batch.specs.Batches.{batches_from, batch_from, Between, Within}
-use Rattle.kc_batch.proofs.Stepping.{step_on, items_add, going_turn, turn_here}
+use Rattle.kc_batch.specs.Batches.{batches_from, Between, Within}
+use Rattle.kc_batch.proofs.Stepping.{going_turn, turn_here}
 
 -- a line that begins a batch
 pub between_start : (rules : Rules) (t : Token) → t.kind ≡ kind.BatchStart → (rest : List Token) → batches_from rules Between (onto_token t rest) ≡ batches_from rules (Within []) rest
@@ -29,17 +24,6 @@ pub within_add : (rules : Rules) (items : List Item) (t : Token) (item : Item) (
 unfolding batches_from
 within_add rules items t item full f e rest =
     rw (turn_here rules items t.kind (Add item) full f e, going_turn rules full t.kind (λ r s. cc) rest) refl
-
--- such a line, where a reader gives it
-pub adds_one : (rules : Rules) (items : List Item) (t : Token) (item : Item) (full : Bool) → full ≡ nat_le rules.item_limit (length items) → turn_of rules full t.kind ≡ Add item
-    → (before after : Reading) → ((left : Option (List ℕ)) → tokens_left before left ≡ option_map (onto_token t) (tokens_left after left)) → Adds rules items before (items ++ item ∷ []) after
-adds_one rules items t item full f e before after h = record {
-  batch = λ left. step_on (batch_from rules (Within items)) (batch_from rules (Within (items ++ item ∷ []))) (onto_token t) _ _ (h left) (items_add rules items t item full f e);
-  batches = λ left. step_on (batches_from rules (Within items)) (batches_from rules (Within (items ++ item ∷ []))) (onto_token t) _ _ (h left) (within_add rules items t item full f e);
-}
-
-pub adds_more : (rules : Rules) (old mid new : List Item) (before now after : Reading) → Adds rules old before mid now → Adds rules mid now new after → Adds rules old before new after
-adds_more rules old mid new before now after a b = record { batch = λ left. a.batch left ∙ b.batch left; batches = λ left. a.batches left ∙ b.batches left }
 
 -- the vertices of an item inside n are below n, as `inside_is` says the other way
 pub is_inside_of : (n : ℕ) (item : Item) → IsInside n item → is_inside n item ≡ true

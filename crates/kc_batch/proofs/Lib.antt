@@ -6,6 +6,7 @@ mod FaultDecides
 mod Following
 mod HeaderEnds
 mod InputLemmas
+mod ItemLines
 mod LineEnds
 mod NumberLines
 mod Saying

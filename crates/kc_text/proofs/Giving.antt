@@ -130,7 +130,7 @@ gives_last limit n room piece ready ended body piece' h er ee e ep = record {
   settled = λ h. absurd (not_last limit _ (subst IsLast e h));
 }
 
-short : (limit : ℕ) (piece : List ℕ) → length piece ≤ limit → body_of limit piece ≡ Text (without_cr piece)
+pub short : (limit : ℕ) (piece : List ℕ) → length piece ≤ limit → body_of limit piece ≡ Text (without_cr piece)
 short limit piece h = grind (arith, nat_tests)
 
 -- a line that lies whole in the bytes that were read is given

@@ -2,6 +2,7 @@ pub mod lemmas
 mod DigitRuns
 mod Digits
 mod Ends
+mod FirstLines
 mod Giving
 mod Holding
 mod KeptLemmas

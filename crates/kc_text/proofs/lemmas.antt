@@ -1,3 +1,4 @@
 pub mod Kept
 pub mod Printing
+pub mod WholeLines
 pub mod Writing

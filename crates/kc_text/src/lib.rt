@@ -27,6 +27,7 @@ mod source;
 mod std_sink;
 mod std_source;
 mod told;
+mod whole_lines;
 mod window;
 mod word;
 
@@ -48,4 +49,5 @@ pub use source::{Failed, Source};
 pub use std_sink::StdSink;
 pub use std_source::StdSource;
 pub use told::{Told, Untold};
+pub use whole_lines::first_numbers;
 pub use word::{is_named, is_skipped, next_word, split_word};

@@ -151,6 +151,15 @@ impl OpenLine {
         number
     }
 
+    /// Opens the line that is this many lines further on. No byte of this one was taken.
+    #[inline(always)]
+    pub fn skip(&mut self, count: u32)
+        requires { self.old.number + count < 2 ^ 32 }
+        ensures { self.new ≡ record self.old { number = self.old.number + count } }
+    {
+        self.number += count;
+    }
+
     /// Returns the line that ends with these bytes, and opens the next. If there is no memory, the line stays open.
     #[inline(always)]
     pub fn close(&mut self, alloc: Global, last: &[u8]) -> Result<Line, AllocError>

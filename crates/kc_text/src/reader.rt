@@ -65,7 +65,7 @@ fn line_of_last(last: LastLine) -> Line
 }
 
 impl LineReader {
-    ghost use Rattle.kc_text.specs.WholeLines.{HasWhole, whole_text, whole_line};
+    ghost use Rattle.kc_text.specs.WholeLines.{HasWhole, whole_text, whole_line, OffersLines, AreReady, scan_after};
     ghost use Rattle.kc_text.specs.Words.{words};
     ghost use Rattle.kc_text.specs.NumberLines.{SayNumbers, IsNoNumberLine, SayNamed, IsNoNamedLine};
     ghost use Rattle.kc_text.specs.Printing.{is_word};
@@ -207,6 +207,40 @@ impl LineReader {
         ensures held { self.new.held ≡ None }
     {
         self.scanner.pass_line(len)
+    }
+
+    /// Returns the bytes in the reader's own memory, up to the input's limit. The first of them begins the next line.
+    ///
+    /// Returns None exactly if a line was put back or is repeated, or if the next line has begun before these bytes.
+    /// `pass_lines` takes whole lines of them. Cost: constant.
+    #[inline(always)]
+    pub fn ready_lines(&self) -> Option<&[u8]>
+        ensures some { IfSome result (λ bytes. OffersLines bytes.now self.now) }
+        ensures none { IfNone result ((bytes : List ℕ) → OffersLines bytes self.now → ⊥) }
+    {
+        if !self.is_scanning() {
+            return None;
+        }
+        self.scanner.ready_lines()
+    }
+
+    /// Returns the most bytes of a line, as `new` was given it.
+    #[inline(always)]
+    pub fn line_limit(&self) -> u32
+        ensures { result ≡ self.now.scan.limit }
+    {
+        self.scanner.line_limit()
+    }
+
+    /// Takes the first `len` of the bytes that `ready_lines` returned, which are `count` whole lines. Takes no memory,
+    /// and reads nothing. Cost: constant.
+    #[inline(always)]
+    pub fn pass_lines(&mut self, len: usize, count: usize)
+        requires held { self.old.held ≡ None }
+        requires ready { AreReady len count self.old.scan }
+        ensures { self.new ≡ record self.old { scan = scan_after len count self.old.scan } }
+    {
+        self.scanner.pass_lines(len, count);
     }
 
     /// Does nothing. Evidence for proofs: the budget of each reader is bounded.

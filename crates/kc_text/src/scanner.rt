@@ -54,7 +54,7 @@ fn strip_cr(bytes: &[u8]) -> &[u8]
 impl Scanner {
     ghost use Rattle.kc_text.specs.Following.{onto, Takes, IsLast};
     ghost use Rattle.kc_text.specs.Scanning.{Scan, scan_lines, scan_budget, is_scan_decided};
-    ghost use Rattle.kc_text.specs.WholeLines.{IsWhole, whole_text, whole_line};
+    ghost use Rattle.kc_text.specs.WholeLines.{IsWhole, whole_text, whole_line, Offers, AreReady, scan_after};
     ghost use Rattle.kc_text.specs.Words.{words};
     ghost use Rattle.kc_text.specs.NumberLines.{SayNumbers, IsNoNumberLine, SayNamed, IsNoNamedLine};
     ghost use Rattle.kc_text.specs.Printing.{is_word};
@@ -189,6 +189,38 @@ impl Scanner {
         self.window.pass(len + 1);
         self.room -= len as u32 + 1;
         number
+    }
+
+    /// Returns the bytes that were read, up to the input limit. Returns None if the next line has begun before them.
+    #[inline(always)]
+    pub fn ready_lines(&self) -> Option<&[u8]>
+        ensures some { IfSome result (λ bytes. Offers bytes.now self.now) }
+        ensures none { IfNone result ((bytes : List ℕ) → Offers bytes self.now → ⊥) }
+    {
+        if self.line.taken() > 0 {
+            return None;
+        }
+        let ready = self.window.ready();
+        Some(&ready[..(self.room as usize).min(ready.len())])
+    }
+
+    /// Returns the most bytes of a line.
+    #[inline(always)]
+    pub fn line_limit(&self) -> u32
+        ensures { result ≡ self.now.limit }
+    {
+        self.line.limit()
+    }
+
+    /// Takes the first `len` of the bytes that `ready_lines` returned: `count` whole lines.
+    #[inline(always)]
+    pub fn pass_lines(&mut self, len: usize, count: usize)
+        requires { AreReady len count self.old }
+        ensures { self.new ≡ scan_after len count self.old }
+    {
+        self.line.skip(count as u32);
+        self.window.pass(len);
+        self.room -= len as u32;
     }
 
     /// Keeps memory for a later line.

@@ -1,13 +1,8 @@
 -- Lines that lie whole among bytes that were read.
-use Rattle.std.specs.Prelude.{ℕ, ◌≡◌, ◌==◌, ◌<◌, false, List, length, take, get_or}
+use Rattle.std.specs.Prelude.{ℕ, ◌≡◌, List, take}
 use Rattle.kc_text.specs.Scanning.{Scan}
 use Rattle.kc_text.specs.WholeLines.{IsWhole}
-
--- the first line feed of these bytes stands at `len`
-pub record EndsAt (bytes : List ℕ) (len : ℕ) : Type 0 where
-  pub within : len < length bytes
-  pub here : get_or bytes len 0 ≡ 10
-  pub before : (k : ℕ) → k < len → (get_or bytes k 0 == 10) ≡ false
+pub use Rattle.kc_text.specs.WholeLines.{EndsAt}
 
 -- these bytes show the next line of the scanner
 --
