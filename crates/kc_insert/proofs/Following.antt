@@ -1,6 +1,6 @@
 -- The vertices of a range count afresh, one after another, and wait if they count more than their groups allow.
-use Rattle.std.proofs.Common.{ℕ, ◌+◌, ◌-◌, ◌<◌, ◌≡◌, ◌≢◌, ◌⊎◌, inl, inr, Bool, true, false, cond, ltb, eqb, not, ◌&&◌, List, [], ◌∷◌, ◌++◌, length, get_or, set, refl, ap, sym, ◌∙◌, arith}
-use Rattle.std.proofs.lemmas.Bool.{cases_eq, cases_Bool}
+use Rattle.std.proofs.Common.{ℕ, ◌+◌, ◌-◌, ◌<◌, ◌≤◌, ◌≡◌, ◌≢◌, ◌⊎◌, inl, inr, Bool, true, false, cond, ltb, eqb, not, ◌&&◌, List, [], ◌∷◌, ◌++◌, length, get_or, set, refl, ap, sym, ◌∙◌, arith}
+use Rattle.std.proofs.lemmas.Bool.{cases_eq, cases_lt, cases_Bool}
 use Rattle.std.proofs.lemmas.Bool.Decides.{nat_tests}
 use Rattle.std.proofs.lemmas.List.{length-set}
 use Rattle.kc_graph.specs.Numbers.{has_number}
@@ -23,6 +23,31 @@ filed_first p n y fresh a first = record {
   only = λ k u there. inl there;
   found = λ u from below ne many. absurd (omega (arith, from, below));
 }
+
+-- the vertices at the places from i on up to j counted as in `fresh` before
+pub filed_over : (p : Profile) (n : ℕ) (y fresh : List ℕ) (i j : ℕ) (a b : Watch) (first queue : List (List ℕ)) → i ≤ j → ((k : ℕ) → i ≤ k → k < j → get_or b.counts k 0 ≡ get_or fresh (b.first + k) 0) → HaveFiled p n y fresh i a b first queue → HaveFiled p n y fresh j a b first queue
+filed_over p n y fresh i j a b first queue order same s = record {
+  watch = s.watch;
+  sized = s.sized;
+  counts = λ v from below. elim (cases_lt v (a.first + i)) [
+    | inl before ↦ s.counts v from before
+    | inr after ↦ is v after below
+  ];
+  later = λ v from. s.later v (omega (arith, from, order));
+  buckets = s.buckets;
+  still = s.still;
+  only = s.only;
+  found = λ u from below ne many. elim (cases_lt u (a.first + i)) [
+    | inl before ↦ s.found u from before ne many
+    | inr after ↦ absurd (ne (sym (s.later u after) ∙ is u after below))
+  ];
+}
+  where
+    begin : b.first ≡ a.first
+    begin = ap (λ (w : Watch). w.first) s.watch
+
+    is : (v : ℕ) → a.first + i ≤ v → v < a.first + j → count_at b v ≡ get_or fresh v 0
+    is v after below = same (v - b.first) (omega (arith, begin, after)) (omega (arith, begin, after, below)) ∙ ap (λ k. get_or fresh k 0) (omega (arith, begin, after))
 
 -- the step of a loop at place i, where v stands
 module _ (p : Profile) (n : ℕ) (y fresh : List ℕ) (i v : ℕ) (a b c : Watch) (first mid queue : List (List ℕ)) (is : v ≡ a.first + i) (at : i < length a.counts) (room : get_or y v 0 < length first) (s : HaveFiled p n y fresh i a b first mid) (t : HasFollowed p n y v (get_or fresh v 0) b c mid queue) where

@@ -1,6 +1,6 @@
 //! How the counts of a sweep follow those of the graph, and which vertices wait when it begins.
 
-ghost use Rattle.std.specs.Prelude.{◌≡◌, ◌≢◌, ◌+◌, ◌<◌, ◌≤◌, ◌^◌, ℕ, false, All, OnOk, length};
+ghost use Rattle.std.specs.Prelude.{◌≡◌, ◌≢◌, ◌+◌, ◌<◌, ◌≤◌, ◌^◌, ℕ, false, All, OnOk, length, slice_index};
 ghost use Rattle.kc_levels.specs.LevelList.{IsCapped};
 ghost use Rattle.kc_levels.specs.Thresholds.{top_level};
 ghost use Rattle.kc_insert.specs.private.Filed.{AllFollowed, AreCopied, AreFiled, AreRowsCopied, HasFollowedAll, HasFollowedOne, HaveFollowed, IsRowCopied, MayFile, MayFollow, MayFollowOne};
@@ -68,6 +68,25 @@ fn follow_count(
     Ok(())
 }
 
+// Returns the first place from this one on where the range has another count than `fresh`. If there is none, returns
+// the number of places.
+fn next_changed(watched: &WatchedCounts, fresh: &[u32], from: usize) -> usize
+    requires inside { (v : ℕ) → HasVertex watched.now v → v < length fresh.now }
+    requires from { from ≤ length watched.now.counts }
+    ensures from { from ≤ result }
+    ensures within { result ≤ length watched.now.counts }
+    ensures same { (i : ℕ) → from ≤ i → i < result → slice_index watched.now.counts i ≡ slice_index fresh.now (watched.now.first + i) }
+{
+    let first = watched.first() as usize;
+    let counts = watched.counts();
+    for i in from..counts.len() {
+        if counts[i] != fresh[first + i] {
+            return i;
+        }
+    }
+    counts.len()
+}
+
 // Gives each vertex of the range its fresh count, as `follow_count` does. Fails only if memory runs out.
 fn follow_counts(
     fresh: &Fresh<'_>,
@@ -82,9 +101,10 @@ fn follow_counts(
 {
     let first = watched.first();
     let count = watched.counts().len();
-    for i in 0..count {
-        let v = first + i as u32;
-        follow_count(fresh, v, watched, queue)?;
+    let mut i = next_changed(watched, fresh.counts, 0);
+    while i < count {
+        follow_count(fresh, first + i as u32, watched, queue)?;
+        i = next_changed(watched, fresh.counts, i + 1);
     }
     Ok(())
 }

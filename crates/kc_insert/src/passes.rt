@@ -19,7 +19,7 @@ use crate::range::Range;
 use crate::rising::{RISING, RisingLevels};
 use crate::telling::Told;
 use crate::watched::WatchedCounts;
-use kc_adj::{LevelLists, put_where};
+use kc_adj::LevelLists;
 use kc_graph::Graph;
 use std::alloc::{AllocError, Global};
 use std::marker::Model;
@@ -68,11 +68,11 @@ impl<'a> Step<'a> {
 
 // Puts w and x at `end`; returns `end + 2` if `holds`, else `end`. There is no branch, since a processor couldn't
 // predict it.
-fn put_both_where(items: &mut Vec<u32>, end: usize, w: u32, x: u32, holds: bool) -> usize
-    requires { end + 1 < length items.old.items }
-    ensures written { items.new.items ≡ slice_set (slice_set items.old.items end w) (end + 1) x }
-    ensures items { take result items.new.items ≡ cond holds (take end items.old.items ++ w ∷ x ∷ []) (take end items.old.items) }
-    ensures length { length items.new.items ≡ length items.old.items }
+fn put_both_where(items: &mut [u32], end: usize, w: u32, x: u32, holds: bool) -> usize
+    requires { end + 1 < length items.old }
+    ensures written { items.new ≡ slice_set (slice_set items.old end w) (end + 1) x }
+    ensures items { take result items.new ≡ cond holds (take end items.old ++ w ∷ x ∷ []) (take end items.old) }
+    ensures length { length items.new ≡ length items.old }
     ensures end { result ≤ end + 2 }
 {
     items[end] = w;
@@ -80,35 +80,17 @@ fn put_both_where(items: &mut Vec<u32>, end: usize, w: u32, x: u32, holds: bool)
     end + 2 * usize::from(holds)
 }
 
-// Writes the neighbours in the row that rise at the front of `found`. Returns how many there are.
-fn rising_of(step: &Step<'_>, row: &[u32], found: &mut Vec<u32>) -> Result<usize, AllocError>
-    requires { (w : ℕ) → has_number w row.now ≡ true → w < step.now.graph.vertices }
-    ensures found { IfOk result (λ count. take count found.new.items ≡ filter (rises step.now.levels) row.now) }
-    ensures inside { IfOk result (λ count. count ≤ length found.new.items) }
-{
-    if found.len() < row.len() {
-        found.resize(row.len(), 0)?;
-    }
-    let levels = step.levels;
-    let mut end = 0;
-    for w in row {
-        end = put_where(found, end, *w, levels.rises(*w));
-    }
-    Ok(end)
-}
-
 // Writes the neighbours in the row that stand above the level and don't rise, each with its level, at the front of
 // `found`. Returns where they end, and how many neighbours are above the level or rise.
-fn above_of(step: &Step<'_>, row: &[u32], found: &mut Vec<u32>) -> Result<(usize, u32), AllocError>
+fn put_above(step: &Step<'_>, row: &[u32], found: &mut [u32]) -> (usize, u32)
     requires inside { (w : ℕ) → has_number w row.now ≡ true → w < step.now.graph.vertices }
     requires small { length row.now < 2 ^ 24 }
-    ensures found { IfOk result (λ r. take r.0 found.new.items ≡ with_levels step.now.levels.stored (filter (is_above step.now) row.now)) }
-    ensures within { IfOk result (λ r. r.0 ≤ length found.new.items) }
-    ensures above { IfOk result (λ r. r.1 ≡ count_by (λ w. count_above step.now w) row.now) }
+    requires room { 2 * length row.now ≤ length found.old }
+    ensures found { take result.0 found.new ≡ with_levels step.now.levels.stored (filter (is_above step.now) row.now) }
+    ensures within { result.0 ≤ length found.new }
+    ensures above { result.1 ≡ count_by (λ w. count_above step.now w) row.now }
+    ensures length { length found.new ≡ length found.old }
 {
-    if found.len() < 2 * row.len() {
-        found.resize(2 * row.len(), 0)?;
-    }
     let level = step.level;
     let now = step.levels.stored.as_slice();
     let mut above = 0;
@@ -124,17 +106,26 @@ fn above_of(step: &Step<'_>, row: &[u32], found: &mut Vec<u32>) -> Result<(usize
             (stood > level) & (stood < RISING),
         );
     }
-    Ok((end, above))
+    (end, above)
+}
+
+// Does what `put_above` does, in a list that has room for the row afterwards. Fails only if memory runs out.
+fn above_of(step: &Step<'_>, row: &[u32], found: &mut Vec<u32>) -> Result<(usize, u32), AllocError>
+    requires inside { (w : ℕ) → has_number w row.now ≡ true → w < step.now.graph.vertices }
+    requires small { length row.now < 2 ^ 24 }
+    ensures found { IfOk result (λ r. take r.0 found.new.items ≡ with_levels step.now.levels.stored (filter (is_above step.now) row.now)) }
+    ensures within { IfOk result (λ r. r.0 ≤ length found.new.items) }
+    ensures above { IfOk result (λ r. r.1 ≡ count_by (λ w. count_above step.now w) row.now) }
+{
+    if found.len() < 2 * row.len() {
+        found.resize(2 * row.len(), 0)?;
+    }
+    Ok(put_above(step, row, found))
 }
 
 // Tells each rising neighbour of a vertex that stays. Returns how many neighbours there are. Fails only if memory runs
 // out.
-fn tell_parting(
-    step: &Step<'_>,
-    stay: &[u32],
-    row: &mut Vec<u32>,
-    told: &mut Told,
-) -> Result<usize, AllocError>
+fn tell_parting(step: &Step<'_>, stay: &[u32], told: &mut Told) -> Result<usize, AllocError>
     requires vertices { (v : ℕ) → has_number v stay.now ≡ true → v < step.now.graph.vertices }
     requires few { length stay.now ≤ 2 ^ 24 }
     ensures told { OnOk result (told.new ≡ record told.old { all = told.old.all ++ flat_map (rising_near step.now) stay.now }) }
@@ -146,8 +137,7 @@ fn tell_parting(
         let v = graph.vertex_with_prefetch(stay, i);
         let near = graph.neighbours(v);
         steps += near.len();
-        let count = rising_of(step, near, row)?;
-        told.tell_all(&row[..count])?;
+        told.tell_rising(step.levels, near)?;
     }
     Ok(steps)
 }
@@ -257,7 +247,7 @@ impl Range {
         ensures dealt { OnOk result (step.now.is_dealt ≡ true → AreDealtAnew step.now.bits self.old.tell self.new.tell) }
     {
         self.told.clear();
-        self.steps += tell_parting(step, &self.stay, &mut self.row, &mut self.told)?;
+        self.steps += tell_parting(step, &self.stay, &mut self.told)?;
         if step.sharing.is_dealt {
             self.told.deal(step.sharing.layout)?;
         }

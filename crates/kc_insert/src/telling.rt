@@ -1,10 +1,13 @@
 //! What a pass over one range has to tell of the vertices of others.
 
-ghost use Rattle.std.specs.Prelude.{◌≡◌, ◌++◌, ◌∷◌, ◌<◌, [], All, IfOk, OnOk, length, replicate, slice_index_or};
+ghost use Rattle.std.specs.Prelude.{◌≡◌, ◌+◌, ◌++◌, ◌∷◌, ◌<◌, ◌≤◌, ◌^◌, ℕ, [], true, All, IfOk, OnOk, filter, length, replicate, slice_index_or, take};
+ghost use Rattle.kc_graph.specs.Numbers.{has_number};
+ghost use Rattle.kc_insert.specs.private.Rising.{rises, seen};
 ghost use Rattle.kc_insert.specs.private.Telling.{AreDealt, AreDealtAnew};
 ghost use Rattle.kc_insert.specs.Ranges.{range_of};
 
 use crate::layout::Layout;
+use crate::rising::{RISING, RisingLevels};
 use std::alloc::{AllocError, Global};
 use std::marker::Model;
 
@@ -27,18 +30,65 @@ impl Model for ToldList {
 /// a `Tell`.
 #[derive(Drop)]
 pub struct Told {
-    // All of them, in the order of the pass.
+    // All of them, in the order of the pass, and then room for more.
     all: Vec<u32>,
+    // How many of them there are.
+    count: usize,
     // The vertices of each range, after `deal`.
     lists: Vec<ToldList>,
 }
 
 impl Model for Told {
+    ghost use Rattle.std.specs.Prelude.{◌≤◌, length, take};
     ghost use Rattle.kc_insert.specs.Ranges.{Tell};
 
     ghost Value = { Tell };
 
-    ghost view = { λ t. record { all = t.all.items; lists = t.lists.items } };
+    ghost view = { λ t. record { all = take t.count t.all.items; lists = t.lists.items } };
+
+    ghost invariant = { λ t. t.count ≤ length t.all.items };
+}
+
+// Makes room for more items after the first `count`, which stay. Fails only if memory runs out.
+fn make_room(items: &mut Vec<u32>, count: usize, more: usize) -> Result<(), AllocError>
+    requires within { count ≤ length items.old.items }
+    requires small { more < 2 ^ 24 }
+    ensures room { OnOk result (count + more ≤ length items.new.items) }
+    ensures within { count ≤ length items.new.items }
+    ensures same { take count items.new.items ≡ take count items.old.items }
+{
+    if items.len() - count < more {
+        items.resize(items.capacity().max(count + more), 0)?;
+    }
+    Ok(())
+}
+
+// Writes the vertices of the row that rise at the places from `start` on. Returns where they end.
+fn put_rising(levels: &RisingLevels, row: &[u32], items: &mut [u32], start: usize) -> usize
+    requires inside { (w : ℕ) → has_number w row.now ≡ true → w < length (seen levels.now) }
+    requires room { start + length row.now ≤ length items.old }
+    ensures items { take result items.new ≡ take start items.old ++ filter (rises levels.now) row.now }
+    ensures within { result ≤ length items.new }
+{
+    let now = levels.stored.as_slice();
+    let mut end = start;
+    for w in row {
+        items[end] = *w;
+        end += usize::from(now[*w as usize] == RISING);
+    }
+    end
+}
+
+// Puts each vertex on the list of its range. Fails only if memory runs out.
+fn deal_each(layout: Layout, vertices: &[u32], lists: &mut [ToldList]) -> Result<(), AllocError>
+    requires { All (λ v. range_of layout.bits v < length lists.old) vertices.now }
+    ensures { OnOk result (AreDealt layout.bits vertices.now lists.old lists.new) }
+{
+    for v in vertices {
+        let list = &mut lists[layout.range_of(*v)];
+        list.items.push(*v)?;
+    }
+    Ok(())
 }
 
 impl Told {
@@ -54,6 +104,7 @@ impl Told {
         }
         Ok(Told {
             all: Vec::new(alloc),
+            count: 0,
             lists,
         })
     }
@@ -62,22 +113,27 @@ impl Told {
     pub fn clear(&mut self)
         ensures { self.new ≡ record self.old { all = [] } }
     {
-        self.all.clear();
+        self.count = 0;
     }
 
     /// Tells of v. Fails only if memory runs out.
     pub fn tell(&mut self, v: u32) -> Result<(), AllocError>
         ensures { OnOk result (self.new ≡ record self.old { all = self.old.all ++ v ∷ [] }) }
     {
-        self.all.push(v)?;
+        make_room(&mut self.all, self.count, 1)?;
+        self.all[self.count] = v;
+        self.count += 1;
         Ok(())
     }
 
-    /// Tells of each in the list. Fails only if memory runs out.
-    pub fn tell_all(&mut self, vertices: &[u32]) -> Result<(), AllocError>
-        ensures { OnOk result (self.new ≡ record self.old { all = self.old.all ++ vertices.now }) }
+    /// Tells of each vertex of the row that rises. Fails only if memory runs out.
+    pub fn tell_rising(&mut self, levels: &RisingLevels, row: &[u32]) -> Result<(), AllocError>
+        requires inside { (w : ℕ) → has_number w row.now ≡ true → w < length (seen levels.now) }
+        requires small { length row.now < 2 ^ 24 }
+        ensures { OnOk result (self.new ≡ record self.old { all = self.old.all ++ filter (rises levels.now) row.now }) }
     {
-        self.all.extend_from_slice(vertices)?;
+        make_room(&mut self.all, self.count, row.len())?;
+        self.count = put_rising(levels, row, &mut self.all, self.count);
         Ok(())
     }
 
@@ -90,19 +146,6 @@ impl Told {
         }
     }
 
-    // Puts each vertex on the list of its range. Fails only if memory runs out.
-    fn deal_each(&mut self, layout: Layout) -> Result<(), AllocError>
-        requires { All (λ v. range_of layout.bits v < length self.old.lists) self.old.all }
-        ensures same { OnOk result (self.new.all ≡ self.old.all) }
-        ensures dealt { OnOk result (AreDealt layout.bits self.old.all self.old.lists self.new.lists) }
-    {
-        for i in 0..self.all.len() {
-            let v = self.all[i];
-            self.lists[layout.range_of(v)].items.push(v)?;
-        }
-        Ok(())
-    }
-
     /// Cuts the list of all by range. Fails only if memory runs out.
     pub fn deal(&mut self, layout: Layout) -> Result<(), AllocError>
         requires { All (λ v. range_of layout.bits v < length self.old.lists) self.old.all }
@@ -110,7 +153,7 @@ impl Told {
         ensures dealt { OnOk result (AreDealtAnew layout.bits self.old self.new) }
     {
         self.clear_lists();
-        self.deal_each(layout)?;
+        deal_each(layout, &self.all[..self.count], &mut self.lists)?;
         Ok(())
     }
 
@@ -118,7 +161,7 @@ impl Told {
     pub fn all(&self) -> &[u32]
         ensures { result.now ≡ self.now.all }
     {
-        self.all.as_slice()
+        &self.all[..self.count]
     }
 
     /// Returns the vertices of a range that the pass told, after `deal`.

@@ -1,7 +1,7 @@
 use Rattle.std.proofs.Common.{length, ap, refl, arith}
 use Rattle.kc_graph.proofs.lemmas.Numbers.{has_number_at}
 use Rattle.kc_insert.proofs.Seen.{length-seen}
-use Rattle.kc_insert.proofs.passes.above_of.Goals as goal
+use Rattle.kc_insert.proofs.passes.put_above.Goals as goal
 
 pub bounds-now-w : goal.bounds-now-w
 bounds-now-w c =
