@@ -8,8 +8,9 @@ ghost use Rattle.kc_session.specs.private.Outcomes.{Applies};
 use crate::audience::show;
 use crate::context::SessionContext;
 use crate::watched::Watched;
+use kc_batch::Items;
 use kc_engine::{BatchPlan, Engine, EngineFault, Shape};
-use kc_graph::{Cleaned, Item, MAX_EDGES, MAX_ITEMS, clean_by};
+use kc_graph::{Cleaned, MAX_EDGES, MAX_ITEMS, clean_by};
 use kc_rounds::{Gate, Rounds};
 use kc_text::Reason;
 use std::alloc::AllocError;
@@ -51,20 +52,28 @@ pub fn open<R: Threads + Sync, G: Gate + Sync>(
 pub fn apply<R: Threads + Sync, G: Gate + Sync>(
     rounds: &Rounds<'_, R, G>,
     watched: &mut Watched<'_>,
-    items: &[Item],
+    items: Items,
 ) -> Result<Outcome, AllocError>
     requires abreast { IsAbreast watched.old.audience watched.old.engine.state }
     requires open { IsOpen watched.old.engine }
-    requires inside { All (IsInside watched.old.engine.state.graph.vertices) items.now }
-    requires few { length items.now ≤ MAX_ITEMS }
-    ensures outcome { IfOk result (λ o. Applies watched.old items.now o watched.new) }
+    requires inside { All (IsInside watched.old.engine.state.graph.vertices) items }
+    requires few { length items ≤ MAX_ITEMS }
+    ensures outcome { IfOk result (λ o. Applies watched.old items o watched.new) }
     ensures store { store_of watched.new.audience ≡ store_of watched.old.audience }
     ensures abreast { OnOk result (IsAbreast watched.new.audience watched.new.engine.state) }
     ensures open { OnOk result (IsOpen watched.new.engine) }
 {
     let (rt, alloc, gate) = (rounds.runtime(), rounds.alloc(), rounds.gate());
     let Watched { engine, audience } = watched;
-    let cleaned = clean_by(rt, alloc, engine.workers(), engine.graph(), items)?;
+    let cleaned = clean_by(
+        rt,
+        alloc,
+        engine.workers(),
+        engine.graph(),
+        items.as_slice(),
+    )?;
+    // The edges take the memory of the items.
+    drop(items);
     match engine.plan(rt, alloc, gate, &cleaned) {
         Ok(plan) => {
             show(rt, gate, audience, engine, &plan);

@@ -13,11 +13,12 @@ use crate::counts::Counts;
 use crate::fault::SessionFault;
 use crate::report::Reporter;
 use crate::watched::Watched;
-use kc_batch::{Ahead, Next, Rules, await_batch, read_ahead};
+use kc_batch::{Ahead, Items, Next, Rules, await_batch, read_ahead};
 use kc_graph::{Crew, MAX_ITEMS};
 use kc_rounds::Gate;
 use kc_text::{LineReader, Reason, Sink, Source};
 use std::alloc::AllocError;
+use std::mem::replace;
 use std::thread::{Threads, join_mut};
 
 // The least number of items of a batch beside which the next one is read. A thread costs as much as the work for some
@@ -30,10 +31,10 @@ fn run_batch<R: Threads + Sync, K: Sink, G: Gate + Sync>(
     watched: &mut Watched<'_>,
     sink: &mut K,
     reporter: &mut Reporter,
-    next: &Next,
+    next: &mut Next,
 ) -> Result<Counts, SessionFault>
-    requires ready { MayRun watched.old next.now reporter.old.counts }
-    ensures step { RunsOne reporter.old.report next.now watched.old watched.new (K.taken sink.old) (K.taken sink.new) reporter.old.counts result }
+    requires ready { MayRun watched.old next.old reporter.old.counts }
+    ensures step { RunsOne reporter.old.report next.old watched.old watched.new (K.taken sink.old) (K.taken sink.new) reporter.old.counts result }
     ensures report { reporter.new.report ≡ reporter.old.report }
     ensures store { store_of watched.new.audience ≡ store_of watched.old.audience }
     ensures abreast { OnOk result (IsAbreast watched.new.audience watched.new.engine.state) }
@@ -45,7 +46,11 @@ fn run_batch<R: Threads + Sync, K: Sink, G: Gate + Sync>(
     let crew = Crew::new(rounds.runtime(), alloc, rounds.workers());
     let counts = reporter.counts;
     match next {
-        Next::Items(batch) => match apply(rounds, watched, batch.items.as_slice())? {
+        Next::Items(batch) => match apply(
+            rounds,
+            watched,
+            replace(&mut batch.items, Items::new(alloc)),
+        )? {
             Outcome::Accepted(cleaned, plan) => {
                 context.progress.advance(plan.moves);
                 let phases = plan.phases.as_slice();
@@ -118,17 +123,17 @@ fn run_and_read<R: Threads + Sync, K: Sink, G: Gate + Sync>(
 {
     let alloc = context.rounds.alloc();
     let rules = rules_in(context);
-    let next = &next;
-    if context.rounds.workers() == 1 || !is_long(next) {
-        let counts = run_batch(context, watched, sink, reporter, next);
+    let mut next = next;
+    if context.rounds.workers() == 1 || !is_long(&next) {
+        let counts = run_batch(context, watched, sink, reporter, &mut next);
         return (Ok(Ahead::new(alloc, rules, false)), counts);
     }
     join_mut(
         context.rounds.runtime(),
         &mut || read_ahead(alloc, reader, rules),
         &mut ||
-            requires { IsSync R.row × IsSync G.row × MayRun watched.now next.now reporter.now.counts }
-        { run_batch(context, watched, sink, reporter, next) },
+            requires { IsSync R.row × IsSync G.row × MayRun watched.now next reporter.now.counts }
+        { run_batch(context, watched, sink, reporter, &mut next) },
     )
 }
 

@@ -6,30 +6,30 @@ use Rattle.kc_session.proofs.batches.run_batch.Goals as goal
 
 pub write_accepted-requires-clause-few_removed : goal.write_accepted-requires-clause-few_removed
 write_accepted-requires-clause-few_removed g c =
-    let o = rw (c.as_slice.ensures, c.in-Accepted.is) at c.in_ok-cleaned-in-Items.ensures.outcome in
+    let o = rw (c.replace.ensures.value, c.in-Accepted.is) at c.in_ok-cleaned-in-Items.ensures.outcome in
     let b = rw c.in-Items.is at c.requires.ready.batch.1 in
     rw o.1 (few_removed c.args.watched.now.engine.state.graph c.in-Items.batch.items c.requires.ready.open_for.sound.graph c.requires.ready.open_for.sound.few_edges b.inside)
 
 pub write_accepted-requires-clause-few_added : goal.write_accepted-requires-clause-few_added
 write_accepted-requires-clause-few_added g c =
-    let o = rw (c.as_slice.ensures, c.in-Accepted.is) at c.in_ok-cleaned-in-Items.ensures.outcome in
+    let o = rw (c.replace.ensures.value, c.in-Accepted.is) at c.in_ok-cleaned-in-Items.ensures.outcome in
     let b = rw c.in-Items.is at c.requires.ready.batch.1 in
     rw o.1 (few_added c.args.watched.now.engine.state.graph c.in-Items.batch.items c.requires.ready.open_for.sound.graph b.inside b.few)
 
 pub write_accepted-requires-clause-few_quiet : goal.write_accepted-requires-clause-few_quiet
 write_accepted-requires-clause-few_quiet g c =
-    let o = rw (c.as_slice.ensures, c.in-Accepted.is) at c.in_ok-cleaned-in-Items.ensures.outcome in
+    let o = rw (c.replace.ensures.value, c.in-Accepted.is) at c.in_ok-cleaned-in-Items.ensures.outcome in
     let b = rw c.in-Items.is at c.requires.ready.batch.1 in
     rw c.as_slice-phases.ensures (few_quiet c.args.watched.now.engine.state c.apply.new.watched.engine.state c.in-Items.batch.items c.in-Accepted.plan.phases c.requires.ready.open_for.sound.graph c.requires.ready.open_for.sound.few_edges b.inside b.few o.2)
 
 pub write_accepted-requires-clause-well_formed : goal.write_accepted-requires-clause-well_formed
 write_accepted-requires-clause-well_formed g c =
-    let o = rw (c.as_slice.ensures, c.in-Accepted.is) at c.in_ok-cleaned-in-Items.ensures.outcome in
+    let o = rw (c.replace.ensures.value, c.in-Accepted.is) at c.in_ok-cleaned-in-Items.ensures.outcome in
     rw c.as_slice-phases.ensures (well_formed c.args.watched.now.engine.state c.apply.new.watched.engine.state c.in-Items.batch.items c.in-Accepted.plan.phases o.2)
 
 pub returns-in_err-write_accepted-in-Accepted-clause-step : goal.returns-in_err-write_accepted-in-Accepted-clause-step
 returns-in_err-write_accepted-in-Accepted-clause-step g c =
-    let o = rw (c.as_slice.ensures, c.in-Accepted.is) at c.in_ok-cleaned-in-Items.ensures.outcome in
+    let o = rw (c.replace.ensures.value, c.in-Accepted.is) at c.in_ok-cleaned-in-Items.ensures.outcome in
     let p = err_from_is_err_and c.from_residual-in_err-write_accepted-in-Accepted.result c.from_residual-in_err-write_accepted-in-Accepted.ensures.1 in
     rw (p.1, c.in-Items.is)
     (accepted_prefix c.args.reporter.now.report (c.args.reporter.now.counts.batches + 1) c.args.watched.now.engine.state c.apply.new.watched.engine.state c.in-Items.batch c.in-Accepted.cleaned c.in-Accepted.plan.phases _ _ o.0 o.1 o.2
@@ -37,20 +37,20 @@ returns-in_err-write_accepted-in-Accepted-clause-step g c =
 
 pub returns-in_ok-write_accepted-in-Accepted-clause-step : goal.returns-in_ok-write_accepted-in-Accepted-clause-step
 returns-in_ok-write_accepted-in-Accepted-clause-step g c =
-    let o = rw (c.as_slice.ensures, c.in-Accepted.is) at c.in_ok-cleaned-in-Items.ensures.outcome in
+    let o = rw (c.replace.ensures.value, c.in-Accepted.is) at c.in_ok-cleaned-in-Items.ensures.outcome in
     rw (c.reuse.ensures, c.in-Items.is)
     (accepted_step c.args.reporter.now.report c.args.watched.now.engine.state c.apply.new.watched.engine.state c.in-Items.batch c.in-Accepted.cleaned c.in-Accepted.plan.phases _ _ c.args.reporter.now.counts _ (shown_to c.args.watched.now.audience) _ o.0 o.1 o.2
     (rw c.as_slice-phases.ensures at c.in_ok-write_accepted-in-Accepted.ensures.text) (rw c.as_slice-phases.ensures at c.with_accepted-counts.ensures) o.3)
 
 pub returns-in_err-write_refusal-in-Refused-2-clause-step : goal.returns-in_err-write_refusal-in-Refused-2-clause-step
 returns-in_err-write_refusal-in-Refused-2-clause-step g c =
-    let o = rw (c.as_slice.ensures, c.in-Refused-2.is) at c.in_ok-cleaned-in-Items.ensures.outcome in
+    let o = rw (c.replace.ensures.value, c.in-Refused-2.is) at c.in_ok-cleaned-in-Items.ensures.outcome in
     let p = err_from_is_err_and c.from_residual-in_err-write_refusal-in-Refused-2.result c.from_residual-in_err-write_refusal-in-Refused-2.ensures.1 in
     rw (p.1, c.in-Items.is) (refused_prefix c.args.reporter.now.report (c.args.reporter.now.counts.batches + 1) c.args.watched.now.engine.state c.apply.new.watched.engine.state c.in-Items.batch c.in-Refused-2.reason _ _ o.0 c.in_err-write_refusal-in-Refused-2.ensures.text)
 
 pub returns-in_ok-write_refusal-in-Refused-2-clause-step : goal.returns-in_ok-write_refusal-in-Refused-2-clause-step
 returns-in_ok-write_refusal-in-Refused-2-clause-step g c =
-    let o = rw (c.as_slice.ensures, c.in-Refused-2.is) at c.in_ok-cleaned-in-Items.ensures.outcome in
+    let o = rw (c.replace.ensures.value, c.in-Refused-2.is) at c.in_ok-cleaned-in-Items.ensures.outcome in
     rw c.in-Items.is (refused_step c.args.reporter.now.report c.args.watched.now.engine.state c.apply.new.watched.engine.state c.in-Items.batch c.in-Refused-2.reason _ _ c.args.reporter.now.counts _ (shown_to c.args.watched.now.audience) _ o.0 c.in_ok-write_refusal-in-Refused-2.ensures.text c.with_refused.ensures o.1)
 
 pub returns-in_err-cleaned-in-Items-clause-step : goal.returns-in_err-cleaned-in-Items-clause-step
