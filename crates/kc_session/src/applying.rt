@@ -44,9 +44,9 @@ pub fn open<R: Threads + Sync, G: Gate + Sync>(
     )
 }
 
-/// Applies a batch without a fault. Its items are cleaned first. Then the batch is refused and changes nothing, or its
-/// edges leave and come in, and its phases are shown to the audience. Fails only if memory runs out; the engine isn't
-/// used again then.
+/// Applies a batch without a fault. Its items are cleaned first, and their memory is given back. Then the batch is
+/// refused and changes nothing, or its edges leave and come in, and its phases are shown to the audience. Fails only if
+/// memory runs out; the engine isn't used again then.
 ///
 /// Cost: that of `clean_by` and `Engine::plan`, and that of `Engine::show` if there are readers.
 pub fn apply<R: Threads + Sync, G: Gate + Sync>(
@@ -72,7 +72,7 @@ pub fn apply<R: Threads + Sync, G: Gate + Sync>(
         engine.graph(),
         items.as_slice(),
     )?;
-    // The edges take the memory of the items.
+    // Given back before the edges are linked, so that these take its memory.
     drop(items);
     match engine.plan(rt, alloc, gate, &cleaned) {
         Ok(plan) => {

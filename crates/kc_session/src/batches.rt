@@ -25,7 +25,8 @@ use std::thread::{Threads, join_mut};
 // thousands of items.
 const LEAST_LONG: usize = 16_384;
 
-// Applies the next batch and writes its text. Returns the reporter's counts with the batch added.
+// Applies the next batch and writes its text. Returns the reporter's counts with the batch added. Takes the items out
+// of the batch, so that their memory serves its phases.
 fn run_batch<R: Threads + Sync, K: Sink, G: Gate + Sync>(
     context: &SessionContext<'_, R, G>,
     watched: &mut Watched<'_>,
