@@ -94,7 +94,7 @@ runs F rules step n old (x ∷ xs) few all rest =
 
 -- 3. The lines of a reader.
 
--- the bytes that were read, cut behind the first `len` of them
+-- the bytes that were read, cut after the first `len` of them
 cut_ready : (bytes : List ℕ) (len : ℕ) (scan : Scan) → Offers bytes scan → len ≤ length bytes → scan.ready ≡ take len bytes ++ drop len scan.ready
 cut_ready bytes len scan o few =
     let r = scan.ready in
@@ -119,7 +119,7 @@ told_items before bytes len count added (Some bs) o few say e =
 counted : (old new added : List Item) (count : ℕ) → new ≡ old ++ added → count ≡ length new - length old → count ≡ length added
 counted old new added count e c = let l = ap length e ∙ length-append old added in omega (arith, l, c)
 
--- a batch goes on behind lines that add items
+-- a batch goes on after lines that add items
 pub adds_items : (rules : Rules) (old new : List Item) (before : Reading) (bytes : List ℕ) (len count : ℕ) → OffersLines bytes before → len ≤ length bytes → length new ≤ rules.item_limit
     → (a : AddLines rules before.scan.limit (take len bytes) old new) → count ≡ length new - length old → Adds rules old before new (record before { scan = scan_after len count before.scan })
 adds_items rules old new before bytes len count o few room a e =

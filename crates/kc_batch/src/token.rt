@@ -166,7 +166,8 @@ pub fn item_of(line: NumberLine) -> Item
 /// read, since a read may wait for bytes.
 ///
 /// Cost: one pass over the bytes of a line that lies whole in the reader's memory and is two numbers with one blank
-/// between them. A sign and a blank may stand before them. For each other line a few passes over its bytes.
+/// between them. A sign and a blank may stand before them. If a number has more than 8 digits, it costs two passes, and
+/// each other line a few.
 #[inline(always)]
 pub fn next_token<S: Source, K: Sink>(
     alloc: Global,

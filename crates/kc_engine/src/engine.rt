@@ -30,7 +30,7 @@ use std::thread::Threads;
 /// see whether it has halted, and whether a plan is pending. Unless it has halted, its state is sound (`IsSound`): both
 /// invariants hold, and no number is above its limit.
 ///
-/// Besides the graph it keeps 25 bytes a vertex: 10 for levels and counts, and 15 for the workspaces of phases.
+/// Besides the graph it keeps 23 bytes a vertex: 10 for levels and counts, and 13 for the workspaces of phases.
 #[derive(Drop)]
 pub struct Engine {
     // The graph with its levels, and what its phases work with. Unless the engine has halted, the levels meet both

@@ -10,7 +10,7 @@ use kc_levels::Thresholds;
 use std::alloc::{AllocError, Global};
 
 // The workspaces of an engine's phases, kept between phases and ready for its graph (`AreReady`). So a phase costs what
-// it changes, and not what the graph has. Takes 15 bytes a vertex.
+// it changes, and not what the graph has. Takes 13 bytes a vertex.
 #[derive(Drop)]
 pub(crate) struct PhaseWork {
     // The workspace of deletion phases, with a copy of the levels.

@@ -21,7 +21,7 @@ use std::thread::Threads;
 pub(crate) const TOGETHER: usize = 16;
 
 // The least number of edges whose halves are worth a sort, so that the row of each vertex is gone through once.
-const LEAST_SORTED: usize = 2_048;
+const LEAST_BY_ROWS: usize = 2_048;
 
 /// A graph on the vertices 0 to n - 1, without loops, each edge once.
 ///
@@ -260,7 +260,7 @@ impl Graph {
         ensures ok { OnOk result (self.new ≡ with_edges self.old edges.now) }
         ensures err { OnErr result (self.new ≡ self.old) }
     {
-        if edges.len() < LEAST_SORTED {
+        if edges.len() < LEAST_BY_ROWS {
             return self.insert_each(crew.alloc, edges);
         }
         let greater = greater_halves_by(crew, edges)?;
@@ -292,7 +292,7 @@ impl Graph {
         ensures ok { OnOk result (self.new ≡ without_edges self.old edges.now) }
         ensures err { OnErr result (self.new ≡ self.old) }
     {
-        if edges.len() < LEAST_SORTED {
+        if edges.len() < LEAST_BY_ROWS {
             self.remove_each(edges);
             return Ok(());
         }

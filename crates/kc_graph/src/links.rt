@@ -77,8 +77,8 @@ impl InRow for Edge {
     }
 }
 
-// Prefetches the rows of the first items of a list if no more than `left` items are left. Then `left` is how many are
-// left when those are done with. Always returns true.
+// Prefetches the rows of the next `AHEAD` items of `rest` if at most `left` items remain. Lowers `left` to the number
+// that remains after these. Always returns true.
 fn prefetch_rows<T: InRow>(rows: &[Row], first: u32, rest: &[T], left: &mut usize) -> bool
     ensures { result ≡ true }
 {

@@ -78,7 +78,7 @@ fn move_place_with_prefetch(moves: &[Move], places: &[u32], entries: &[Entry], k
     for i in k..moves.len().min(k + TOGETHER) {
         let entry = &entries[places[moves[i].vertex as usize] as usize];
         if !prefetch_last_move(entry, places.len()) {
-            // Never: `prefetch_last_move` is always true.
+            // Never: `prefetch_last_move` always returns true.
             return 0;
         }
     }
@@ -143,7 +143,7 @@ fn edge_place_with_prefetch(edges: &[Edge], places: &[u32], entries: &[Entry], k
     for i in k..edges.len().min(k + TOGETHER) {
         if let Some(entry) = entries.get(place_at(places, edges[i]) as usize) {
             if !prefetch_last_edge(entry) {
-                // Never: `prefetch_last_edge` is always true.
+                // Never: `prefetch_last_edge` always returns true.
                 return 0;
             }
         }

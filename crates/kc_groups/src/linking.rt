@@ -34,7 +34,7 @@ fn prefetch_rows(graph: &Graph, moves: &[Move], place: u32) -> bool
     let end = moves.len().min(place as usize + TOGETHER as usize);
     for k in place as usize..end {
         if !graph.prefetch_row(moves[k].vertex) {
-            // Never: `prefetch_row` is always true.
+            // Never: `prefetch_row` always returns true.
             return false;
         }
     }
@@ -47,7 +47,7 @@ fn vertex_with_prefetch(graph: &Graph, moves: &[Move], place: u32) -> u32
     ensures { result ≡ slice_index (vertices moves.now) place }
 {
     if place % TOGETHER == 0 && !prefetch_rows(graph, moves, place) {
-        // Never: `prefetch_rows` is always true.
+        // Never: `prefetch_rows` always returns true.
         return 0;
     }
     moves[place as usize].vertex

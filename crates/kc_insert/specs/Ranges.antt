@@ -8,9 +8,13 @@ use Rattle.kc_levels.specs.Thresholds.{top_level}
 
 -- what contracts see of a `WatchedCounts`
 pub record Watch : Type 0 where
+  -- the first vertex
   pub first : ℕ
+  -- what each vertex counts
   pub counts : List ℕ
+  -- the limit of the watch list
   pub most : ℕ
+  -- the watch list
   pub doubtful : List ℕ
 
 -- v is one of the vertices

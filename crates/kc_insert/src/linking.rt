@@ -11,8 +11,8 @@ use std::alloc::AllocError;
 use std::sync::ledger::Ledger;
 use std::thread::Threads;
 
-/// Links the edges, which ascend; the workers of `rounds` do it if they are many (`link_all`). Levels stay. Counts 3
-/// steps for each edge.
+/// Links the edges, which ascend (`link_all`). Workers of `rounds` share many edges. Levels stay. Counts 3 steps for
+/// each edge.
 ///
 /// Fails only if memory runs out; the graph is then unspecified.
 pub fn link_edges<R: Threads + Sync, G: Gate + Sync, L: Ledger>(

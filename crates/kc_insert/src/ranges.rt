@@ -380,8 +380,8 @@ impl Ranges {
     }
 
     /// Runs the pass `rise` of each range: a riser that met a vertex which stays counts one less. Vertices that begin
-    /// count afresh, and their meetings are filed. Then each range hears which of its vertices were met. Those that
-    /// then count more than `most`, the limit of the next level, wait there. Fails only if memory runs out.
+    /// count afresh, and their meetings are filed. Then each range hears which of its vertices were met. A vertex that
+    /// then counts more than `most`, the limit of the next level, waits there. Fails only if memory runs out.
     pub fn rise<R: Threads + Sync, G: Gate + Sync>(
         &mut self,
         rounds: &Rounds<R, G>,

@@ -49,7 +49,8 @@ impl Model for Told {
     ghost invariant = { λ t. t.count ≤ length t.all.items };
 }
 
-// Makes room for more items after the first `count`, which stay. Fails only if memory runs out.
+// Makes room for more items after the first `count`, which stay. Fills the list up to its capacity, so that few calls
+// resize it. Fails only if memory runs out.
 fn make_room(items: &mut Vec<u32>, count: usize, more: usize) -> Result<(), AllocError>
     requires within { count ≤ length items.old.items }
     requires small { more < 2 ^ 24 }
@@ -63,7 +64,8 @@ fn make_room(items: &mut Vec<u32>, count: usize, more: usize) -> Result<(), Allo
     Ok(())
 }
 
-// Writes the vertices of the row that rise at the places from `start` on. Returns where they end.
+// Writes the vertices of the row that rise at the places from `start` on. Returns where they end. There is no branch,
+// since a processor couldn't predict it.
 fn put_rising(levels: &RisingLevels, row: &[u32], items: &mut [u32], start: usize) -> usize
     requires inside { (w : ℕ) → has_number w row.now ≡ true → w < length (seen levels.now) }
     requires room { start + length row.now ≤ length items.old }

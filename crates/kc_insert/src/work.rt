@@ -26,7 +26,7 @@ use std::thread::Threads;
 // The fewest edges of a long phase.
 const LONG_PHASE: usize = 4_096;
 
-// For so many vertices the ranges stay for one more short phase.
+// The ranges stay for one short phase for each of this number of vertices.
 const SHORT_SHARE: u32 = 1_024;
 
 /// What insertion phases work with, kept between them, so that a phase costs what it changes and not what the graph
@@ -34,12 +34,13 @@ const SHORT_SHARE: u32 = 1_024;
 ///
 /// Contracts see it as a `Working`. Between phases it is ready for the graph (`IsReady`). It then has copies of the
 /// levels and of the counts, and nothing is left of a phase. After a deletion phase `follow` brings the copies up to
-/// date. Takes 6 bytes a vertex, 48 for each range and each level up to the top, and 48 for each pair of ranges.
+/// date. Takes 6 bytes a vertex, and 4 more while `adapt` cuts. Takes 48 for each range and each level up to the top,
+/// and 48 for each pair of ranges.
 #[derive(Drop)]
 pub struct InsertionWork {
     // How far the sweep of the phase has come. Between phases no vertex rises, waits or is to be met.
     pub(crate) sweep: Sweep,
-    // How many short phases in a row `adapt` has counted, at most until the vertices are one range again.
+    // The number of short phases since the last long one, at most one for each `SHORT_SHARE` vertices.
     short_phases: u32,
 }
 
@@ -92,8 +93,8 @@ impl InsertionWork {
     ///
     /// Ranges let threads share a long phase, and cost a short one more than they save. The first long phase, of at
     /// least 4,096 edges, cuts the vertices as `Layout::of` does. With one worker it does so from 262,144 vertices on.
-    /// They are one range again after more short phases in a row than one for each 1,024 vertices. So going back costs
-    /// no more than was saved.
+    /// After one short phase for each 1,024 vertices in a row, the next short one makes one range again. So going back
+    /// costs no more than was saved.
     ///
     /// If the ranges become others, this costs a pass over the vertices, and for each range one over the levels up to
     /// the top. The old ranges are given back after the new ones are made. Fails only if memory runs out; the workspace

@@ -71,7 +71,7 @@ pub fn write_batch_by<M: Members, K: Sink>(
     Ok(())
 }
 
-/// Writes the lines of an accepted batch (`batch_text`), one after another.
+/// Writes the lines of an accepted batch (`batch_text`), one after another. Each line is one `put_all`.
 ///
 /// - The first line has the batch's number, the counts of its cleaning, and how many edges are removed and added.
 /// - Each phase has a line with its number, its direction and its number of quiet edges.

@@ -5,8 +5,8 @@ ghost use Rattle.kc_text.specs.Writing.{Appends, WriteCause};
 
 use kc_text::{Failed, LineBuf, SendFault, Sink, put_all};
 
-/// The bytes of lines from which on they are sent. A write for each line costs a fifth of the instructions of the lines
-/// of vertices.
+/// The number of bytes from which on held lines are sent. A write for each line costs a fifth of the instructions of
+/// the lines of vertices.
 pub(crate) const BLOCK: usize = 4_096;
 
 /// Sends what the buffer holds, as it is, and empties the buffer.

@@ -1,9 +1,9 @@
 //! The lines of a run and of an exact text, and the end of any text with a line for each vertex.
 //!
-//! A call that writes clears the line buffer, fills it with a line and sends it whole. In a session the lines of a
-//! phase's groups, and the lines of vertices, are sent in blocks. The sink takes the lines of the definition that the
-//! call names. A line of this crate has at most 106 bytes. The vertices of a group or of a reader, and the words of an
-//! opening, come on top. The buffer keeps its memory for the next line.
+//! A call that writes clears the line buffer, fills it with a line and sends it whole. `write_batch_by` may send the
+//! lines of a phase's groups in blocks, and `write_level_tail` does so with those of the vertices. The sink takes the
+//! lines of the definition that the call names. A line of this crate has at most 106 bytes. The vertices of a group or
+//! of a reader, and the words of an opening, come on top. The buffer keeps its memory for the next line.
 //!
 //! After either fault the sink took a prefix of the lines.
 //!

@@ -18,7 +18,7 @@ pub trait Members {
     /// What has to hold before a call.
     ghost may_fill: { Self → Type 0 };
 
-    /// Returns the number of bytes of lines of groups from which on they are sent.
+    /// Returns how many bytes of group lines are held before they are sent.
     fn block(&self) -> usize;
 
     /// Appends for each move a blank, its vertex and its new level.
@@ -27,7 +27,8 @@ pub trait Members {
         ensures { OnOk result (buf.new ≡ buf.old ++ flat_map (λ m. 32 ∷ member_word m) moves.now) };
 }
 
-// The number of members that are composed before they are appended. An append costs as much as a member.
+// The number of members that are composed before they are appended. An append costs as much as composing a
+// member.
 const TOGETHER: usize = 8;
 
 // The most bytes of these members.
@@ -69,7 +70,7 @@ pub struct InTurn;
 impl Members for InTurn {
     ghost may_fill = { λ _. Unit {0} };
 
-    /// Each line is sent by itself.
+    /// Returns 1: each line is sent by itself.
     fn block(&self) -> usize {
         1
     }
@@ -123,7 +124,7 @@ fn fill_pieces<R: Threads + Sync>(
 impl<R: Threads + Sync> Members for Crew<'_, R> {
     ghost may_fill = { λ _. IsSync R.row };
 
-    /// Lines are sent in blocks.
+    /// Returns `BLOCK`.
     fn block(&self) -> usize {
         BLOCK
     }

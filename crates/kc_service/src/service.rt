@@ -38,7 +38,7 @@ use std::thread::Threads;
 /// it has halted. They also see its state, which is profile, graph, levels and number of phases, and the history that
 /// readers see. Unless it has halted, both invariants of levels hold, and the history leads to the state.
 ///
-/// Besides the graph it takes 49 bytes a vertex.
+/// Besides the graph it takes 47 bytes a vertex.
 #[derive(Drop)]
 pub struct Service<'a, R> {
     // The runtime that starts the threads of a batch.

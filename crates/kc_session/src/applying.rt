@@ -72,7 +72,7 @@ pub fn apply<R: Threads + Sync, G: Gate + Sync>(
         engine.graph(),
         items.as_slice(),
     )?;
-    // Given back before the edges are linked, so that these take its memory.
+    // Gives the items back before the edges are linked, so that the rows take that memory.
     drop(items);
     match engine.plan(rt, alloc, gate, &cleaned) {
         Ok(plan) => {

@@ -1,8 +1,8 @@
 -- The fast path for lines of two numbers: what it returns, and for which lines it returns nothing.
 --
 -- Most lines of large inputs are two numbers, such as `12 345`, `+ 12 345` or `edge 12 345`. `LineReader::number_line`
--- and `numbers_after` read such a line where it lies, if it lies whole in the reader's memory. Every other line goes
--- the usual way: `next_line` and then the words of its text.
+-- and `numbers_after` read such a line in the reader's memory, if it lies whole there. Every other line goes the usual
+-- way: `next_line` and then the words of its text.
 --
 -- Both ways give the same. `SayNumbers` and `SayNamed` state what the fast path returns over `words` and `number_of`,
 -- which are all that the usual way uses. So no definition of an input's content rests on this page, and a reader of

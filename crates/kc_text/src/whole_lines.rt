@@ -11,7 +11,8 @@ use crate::number_line::number_line;
 /// Returns the first line of these bytes if its line feed is among them and it is two numbers, as for
 /// `LineReader::number_line`. No limit is set to its length.
 ///
-/// Returns None only if there is no such line. Cost: one pass over the bytes of the line.
+/// Returns None only if there is no such line. Cost: one pass over the bytes of the line, or two if a number has more
+/// than 8 digits.
 #[inline(always)]
 pub fn first_numbers(bytes: &[u8]) -> Option<NumberLine>
     ensures ends { IfSome result (λ line. EndsAt bytes.now line.len) }

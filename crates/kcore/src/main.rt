@@ -1,8 +1,8 @@
 //! The program `kcore`: an approximate k-core decomposition of a graph, from bytes to bytes.
 //!
 //! [`top::run_command`] carries out a command. [`process::program`] runs it from a reader to a writer.
-//! [`process::start`] takes the words of the command line and makes the buffer. `main` hands it the standard streams,
-//! and ends with its exit number.
+//! [`process::start`] takes the words of the command line and makes the buffer. `main` hands the standard streams to
+//! `start`, and ends with its exit number.
 //!
 //! `run`, `final`, `orient`, `exact` and `dense` read a header first ([`inputs`]). Then `run` passes the batches and
 //! the readers to `kc_session`. `final`, `orient`, `exact` and `dense` write a document of the state after the batches

@@ -16,7 +16,7 @@ pub record AreItems (rules : Rules) (items : List Item) : Type 0 where
   pub inside : All (IsInside rules.n) items
   pub allowed : All (λ item. is_allowed rules.profile item ≡ true) items
 
--- a batch of these items goes on in the lines to come as it went on, with fewer items, in those that were to come
+-- reading on with the new items after these lines gives what reading on with the old ones before them gives
 pub record Adds (rules : Rules) (old : List Item) (before : Reading) (new : List Item) (after : Reading) : Type 0 where
   pub batch : (left : Option (List ℕ)) → option_map (batch_from rules (Within old)) (tokens_left before left) ≡ option_map (batch_from rules (Within new)) (tokens_left after left)
   pub batches : (left : Option (List ℕ)) → batches_at rules (Within old) before left ≡ batches_at rules (Within new) after left

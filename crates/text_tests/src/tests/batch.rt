@@ -179,9 +179,14 @@ const BATCHES: &[&str] = &[
     "5\n5 bad-vertex\n.\n => batch\n0 1\n- 5 0",
 ];
 
+// The bytes that a source gives a call: so few that each line comes in pieces, or all at once.
+const PIECES: &[u32] = &[3, 1000];
+
 #[test]
 fn faults_of_batches(rt: HostRuntime) {
-    check_rows(&rt, HEAD, BATCHES, 3);
+    for piece in PIECES {
+        check_rows(&rt, HEAD, BATCHES, *piece);
+    }
 }
 
 // An input that ends before one of its lines, and the answer to it.
@@ -204,7 +209,9 @@ fn cut_inputs(rt: HostRuntime) {
     for row in CUT {
         let (line, want) = sides(&rt, row);
         let (before, _) = text.split_once(line).expect(&rt, "the line");
-        check(&rt, line, &told_of(&rt, &[before], 3), want);
+        for piece in PIECES {
+            check(&rt, line, &told_of(&rt, &[before], *piece), want);
+        }
     }
 }
 
@@ -258,6 +265,18 @@ const LIMITED: &[(ThreeLimits, &str)] = &[
         "kcore 1\nvertices 3\nbatch\n0 1\n0 2\nend\nbatch\n0 1\n0 2\n1 2\nend\n => 3\n6 +0,1 +0,2\n10 too-many\n.\n",
     ),
     (
+        (99, 28, 9),
+        "kcore 1\nvertices 2\nbatch\n0 1\nend\n => 2\n4 input-limit\n4 input-limit\n4 input-limit\n4 input-limit\n",
+    ),
+    (
+        (99, 29, 9),
+        "kcore 1\nvertices 2\nbatch\n0 1\nend\n => 2\n5 input-limit\n5 input-limit\n5 input-limit\n5 input-limit\n",
+    ),
+    (
+        (10, 1000, 9),
+        "kcore 1\nvertices 2\nbatch\n0 00000001\n0 000000001\nend\n => 2\n5 line-long\n.\n",
+    ),
+    (
         (99, 24, 9),
         "kcore 1\nvertices 2\nbatch\n0 1\nend\n => 2\n3 input-limit\n3 input-limit\n3 input-limit\n3 input-limit\n",
     ),
@@ -287,8 +306,10 @@ fn told_of_comment(rt: &impl Bench, zeros: u32) -> Vec<u8> {
 fn limits_of_lines_and_items(rt: HostRuntime) {
     for (limits, row) in LIMITED {
         let (text, want) = sides(&rt, row);
-        let got = told(&rt, text.as_bytes(), 4, &[], *limits);
-        check(&rt, text, &got, want);
+        for piece in PIECES {
+            let got = told(&rt, text.as_bytes(), *piece, &[], *limits);
+            check(&rt, text, &got, want);
+        }
     }
     let got = told_of_comment(&rt, 65_535);
     check(&rt, "65,536 bytes", &got, "5\n5\n.\n");

@@ -61,13 +61,14 @@ fn plans_of(rt: &impl Bench, steps: &[Step]) -> Vec<PhasePlan>
 }
 
 // Returns the text of batch 2 with an edge that leaves, one that comes in, and these phases, and how the call ended.
-fn written(rt: &impl Bench, plans: &[PhasePlan]) -> Vec<u8>
+// The sink takes `piece` bytes a write, and the writes with the numbers `failing` fail.
+fn written(rt: &impl Bench, plans: &[PhasePlan], piece: u32, failing: &[u32]) -> Vec<u8>
     requires { All (λ plan. (n : ℕ) × IsWellFormed n plan) plans.now }
 {
     assert!(rt; plans.iter().all(|plan| plan.quiet.edges.len() < 9));
     let cleaned = cleaned_of(rt, &[(0, 1)], &[(0, 2)]);
     assert!(rt; cleaned.removed.len() < 9 && cleaned.added.len() < 9);
-    let mut sink = sink_of(rt, 7, &[]);
+    let mut sink = sink_of(rt, piece, failing);
     let mut buf = LineBuf::new(rt.alloc());
     let answer = write_batch(rt.alloc(), &mut buf, &mut sink, 2, &cleaned, plans);
     drop(buf);
@@ -80,7 +81,7 @@ const BATCH_LINE: &str = "batch 2 loops 3 repeats 40 idle 4294967295 removed 1 a
 // Returns whether a batch with these phases is written as its line and `lines`, which end with how the call ended.
 fn are_written(rt: &impl Bench, steps: &[Step], lines: &str) -> bool {
     let plans = plans_of(rt, steps);
-    let got = written(rt, plans.as_slice());
+    let got = written(rt, plans.as_slice(), 7, &[]);
     drop(plans);
     got == joined(rt, &[BATCH_LINE, lines])
 }
@@ -111,6 +112,16 @@ fn batches_of_one_phase(rt: HostRuntime) {
     assert!(rt; are_written(&rt, STAR_FALLS, star));
     assert!(rt; are_written(&rt, QUIET, "phase 2 delete quiet 1\no"));
     assert!(rt; are_written(&rt, TWO_GROUPS, groups));
+}
+
+// Each line of a batch is a write: the fourth fails, after the line of the first group.
+#[test]
+fn each_line_of_a_batch_is_a_write(rt: HostRuntime) {
+    let plans = plans_of(&rt, TWO_GROUPS);
+    let got = written(&rt, plans.as_slice(), 1000, &[4]);
+    drop(plans);
+    let lines = "phase 1 insert quiet 0\ngroup 1 0 0:1 1:1\nf";
+    assert!(rt; got == joined(&rt, &[BATCH_LINE, lines]));
 }
 
 const COMES: Pairs = &[(0, 2)];
