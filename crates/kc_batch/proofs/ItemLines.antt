@@ -2,8 +2,8 @@
 use Rattle.std.proofs.Common.{ℕ, ◌+◌, ◌-◌, ◌<◌, ◌≤◌, ◌≡◌, ◌∙◌, Bool, true, false, List, [], ◌∷◌, ◌++◌, length, take, drop, nat_le, refl, sym, ap, arith, append_assoc}
 use Rattle.std.specs.Prelude.{All, Option, Some, None, if◌then◌else◌, min}
 use Rattle.std.specs.Option.{option_map}
-use Rattle.std.proofs.lemmas.List.{append-nil, length-append, length-take, length-take-le, take-append-drop, take-append-le}
-use Rattle.std.proofs.Math.Seq.{take-append_seam}
+use Rattle.std.proofs.lemmas.List.{append-nil, length-append, length-drop, length-take, length-take-le, take_all, take-append-drop, take-append-le}
+use Rattle.std.proofs.Math.Seq.{take-append_seam, take-add}
 use Rattle.std.proofs.lemmas.List.Elements.{All-nil, All-cons, All-head, All-tail, All-append, All-weaker}
 use Rattle.std.proofs.lemmas.Bool.Decides.{nat_tests}
 use Rattle.kc_graph.specs.Cleaning.{IsInside}
@@ -25,7 +25,7 @@ use Rattle.kc_batch.specs.Batches.{Within, batch_from, batches_from}
 use Rattle.kc_batch.specs.Tokens.{tokens_left}
 use Rattle.kc_batch.specs.Turns.{IsItemOf, is_allowed, is_inside, turn_of}
 use Rattle.kc_batch.specs.private.Adding.{AreItems, Adds}
-use Rattle.kc_batch.specs.private.ItemLines.{item_tokens, tokens_in, SayItems, AddLines}
+use Rattle.kc_batch.specs.private.ItemLines.{item_tokens, tokens_in, SayItems, AddLines, WalksLines}
 use Rattle.kc_batch.specs.private.Tokens.{item_of, onto_token}
 use Rattle.kc_batch.proofs.Aheads.{within_add, is_inside_of}
 use Rattle.kc_batch.proofs.NumberLines.{number_item}
@@ -183,3 +183,21 @@ pub gone_is : (bytes gone rest : List ℕ) → bytes ≡ gone ++ rest → take (
 gone_is bytes gone rest e =
     let n : length (gone ++ rest) - length rest ≡ length gone = omega (arith, length-append gone rest) in
     rw (e, n) (take-append_seam gone rest)
+
+-- 5. Two parts of the bytes.
+
+-- the walk goes over the first part and on in the second
+pub walk_on : (rules : Rules) (limit place first len : ℕ) (bytes : List ℕ) (old mid new : List Item) → place ≤ length bytes → place ≤ first → WalksLines rules limit (take place bytes) old mid first
+    → WalksLines rules limit (drop place bytes) mid new len → WalksLines rules limit bytes old new (place + len)
+walk_on rules limit place first len bytes old mid new h k p q =
+    let l = length-take-le place bytes h in
+    let d = length-drop place bytes in
+    let all : take first (take place bytes) ≡ take place bytes = take_all _ _ (omega (arith, l, k)) in
+    let more = add_more rules limit (take place bytes) (take len (drop place bytes)) old mid new (rw all at p.adds) q.adds in
+    let both : take place bytes ++ take len (drop place bytes) ≡ take (place + len) bytes = sym (take-add place len bytes) in
+    record { few = q.few; within = omega (arith, d, h, q.within); adds = rw both at more }
+
+-- what a walk adds to no items, a list may take after its own
+pub walk_after : (rules : Rules) (limit : ℕ) (bytes : List ℕ) (mid later : List Item) (len : ℕ) → length (mid ++ later) ≤ rules.item_limit → WalksLines rules limit bytes [] later len → WalksLines rules limit bytes mid (mid ++ later) len
+walk_after rules limit bytes mid later len few w =
+    record { few = few; within = w.within; adds = record { added = w.adds.added; new_is = ap (λ xs. mid ++ xs) w.adds.new_is; say = w.adds.say; sound = w.adds.sound } }

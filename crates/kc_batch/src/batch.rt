@@ -5,15 +5,17 @@ ghost use Rattle.kc_text.specs.Reading.{budget};
 ghost use Rattle.kc_batch.specs.Tokens.{tokens_left};
 
 use crate::Items;
-use crate::adding::add_items;
+use crate::adding::{Alone, Walk, add_items};
 use crate::ahead::Ahead;
 use crate::await_fault::AwaitFault;
 use crate::rules::Rules;
 use crate::token::{Kind, next_token};
 use crate::turn::{Turn, turn_at};
+use kc_graph::Crew;
 use kc_levels::Profile;
 use kc_text::{LineReader, NullSink, Reason, Sink, Source};
 use std::alloc::{AllocError, Global};
+use std::thread::Threads;
 use thiserror::Error;
 
 /// A batch without a fault.
@@ -75,13 +77,14 @@ fn pass_to_end<S: Source, K: Sink>(
 }
 
 // Reads the rest of a batch whose `batch` line was read, and these items after it.
-fn read_items<S: Source, K: Sink>(
-    alloc: Global,
+fn read_items<W: Walk, S: Source, K: Sink>(
+    walk: &W,
     reader: &mut LineReader,
     src: &mut S,
     sink: &mut K,
     ahead: Ahead,
 ) -> Result<Next, AwaitFault>
+    requires { W.may_walk walk.now }
     ensures batch { IfOk result (ReadsRest ahead reader.old (S.left src.old) reader.new (S.left src.new)) }
     ensures sound { IfOk result (IsNext ahead.rules) }
     ensures more { IfOk result (λ next. IsEnd next → ⊥) }
@@ -94,8 +97,9 @@ fn read_items<S: Source, K: Sink>(
         mut items,
         ..
     } = ahead;
+    let alloc = walk.alloc();
     loop {
-        if let Err(e) = add_items(reader, rules, &mut items) {
+        if let Err(e) = add_items(walk, reader, rules, &mut items) {
             return Err(AwaitFault::Memory(e));
         }
         let token = next_token(alloc, reader, src, sink)?;
@@ -116,13 +120,14 @@ fn read_items<S: Source, K: Sink>(
 }
 
 // Reads the next batch. After a fault in it, passes over the lines up to its end.
-fn find_batch<S: Source, K: Sink>(
-    alloc: Global,
+fn find_batch<W: Walk, S: Source, K: Sink>(
+    walk: &W,
     reader: &mut LineReader,
     src: &mut S,
     sink: &mut K,
     rules: Rules,
 ) -> Result<Next, AwaitFault>
+    requires { W.may_walk walk.now }
     ensures batch { IfOk result (ReadsBatch rules reader.old (S.left src.old) reader.new (S.left src.new)) }
     ensures sound { IfOk result (IsNext rules) }
     ensures takes { IfOk result (λ next. TakesBatch next (budget reader.old) (budget reader.new)) }
@@ -130,12 +135,13 @@ fn find_batch<S: Source, K: Sink>(
     ensures taken { K.taken sink.new ≡ K.taken sink.old }
     ensures cause { AwaitCause (S.faults src.old) (S.faults src.new) (K.faults sink.old) (K.faults sink.new) result }
 {
+    let alloc = walk.alloc();
     let token = next_token(alloc, reader, src, sink)?;
     let line = token.number;
     match token.kind {
         Kind::BatchStart => {
             let begun = Ahead::new(alloc, rules, true);
-            let next = read_items(alloc, reader, src, sink, begun)?;
+            let next = read_items(walk, reader, src, sink, begun)?;
             Ok(next)
         }
         Kind::BatchEnd => Ok(Next::Refused {
@@ -168,9 +174,10 @@ fn find_batch<S: Source, K: Sink>(
 /// read of the source. A read may wait for bytes, so the text written before is passed on first.
 ///
 /// `WriteFault` comes only if a flush failed, and then too the reader isn't used again. As long as each next line of
-/// the batch lies whole in the reader's memory, nothing is read and nothing is flushed.
-pub fn await_batch<S: Source, K: Sink>(
-    alloc: Global,
+/// the batch lies whole in the reader's memory, nothing is read and nothing is flushed. If there are several workers,
+/// threads share the walk over many lines that lie there. No answer depends on the number of workers.
+pub fn await_batch<R: Threads + Sync, S: Source, K: Sink>(
+    crew: &Crew<'_, R>,
     reader: &mut LineReader,
     src: &mut S,
     sink: &mut K,
@@ -193,10 +200,10 @@ pub fn await_batch<S: Source, K: Sink>(
     ensures cause { AwaitCause (S.faults src.old) (S.faults src.new) (K.faults sink.old) (K.faults sink.new) result }
 {
     if ahead.begun {
-        let next = read_items(alloc, reader, src, sink, ahead)?;
+        let next = read_items(crew, reader, src, sink, ahead)?;
         return Ok(next);
     }
-    let next = find_batch(alloc, reader, src, sink, ahead.rules)?;
+    let next = find_batch(crew, reader, src, sink, ahead.rules)?;
     Ok(next)
 }
 
@@ -239,7 +246,7 @@ pub fn next_batch<S: Source>(
         item_limit,
     };
     let mut sink = NullSink::new();
-    match find_batch(alloc, reader, src, &mut sink, rules) {
+    match find_batch(&Alone { alloc }, reader, src, &mut sink, rules) {
         Ok(next) => Ok(next),
         Err(AwaitFault::ReadFault) => Err(BatchFault::ReadFault),
         // Never: a `NullSink` has no faults.

@@ -5,7 +5,7 @@ ghost use Rattle.kc_batch.specs.Batches.{Within, batches_left};
 ghost use Rattle.kc_batch.specs.Ahead.{place_of, batches_at, batches_ahead, ahead_budget, with_begun};
 
 use crate::Items;
-use crate::adding::add_items;
+use crate::adding::{Alone, add_items};
 use crate::ahead::Ahead;
 use crate::rules::Rules;
 use crate::token::{Kind, classify};
@@ -44,7 +44,7 @@ fn take_items(alloc: Global, reader: &mut LineReader, rules: Rules) -> Result<Ah
     ensures budget { budget reader.new ≤ budget reader.old }
 {
     let mut items = Items::new(alloc);
-    add_items(reader, rules, &mut items)?;
+    add_items(&Alone { alloc }, reader, rules, &mut items)?;
     Ok(Ahead {
         rules,
         begun: true,

@@ -141,8 +141,8 @@ fn run_and_read<R: Threads + Sync, K: Sink, G: Gate + Sync>(
 /// Runs the batches of an input. Each batch is read, applied, shown to the audience and reported before the next one.
 ///
 /// Afterwards the engine is that after all batches, and the audience is up to date with it. Text that was written is
-/// flushed before the call waits for bytes of the next batch. If there are several workers, one more thread reads ahead
-/// while a long batch is applied.
+/// flushed before the call waits for bytes of the next batch. If there are several workers, threads share the walk over
+/// the lines of a long batch. One more thread reads ahead while it is applied.
 ///
 /// Stops at the first fault of the source, of the sink or of memory. The text written is then a prefix of that of the
 /// batches.
@@ -160,10 +160,11 @@ pub fn run_batches<R: Threads + Sync, S: Source, K: Sink, G: Gate + Sync>(
     // Evidence for the check: the budget of a reader bounds the number of batches.
     reader.has_budget();
     let alloc = context.rounds.alloc();
+    let crew = Crew::new(context.rounds.runtime(), alloc, context.rounds.workers());
     let mut reporter = Reporter::new(alloc, context.report);
     let mut ahead = Ahead::new(alloc, rules_in(context), false);
     loop {
-        let next = await_batch(alloc, reader, src, sink, ahead)?;
+        let next = await_batch(&crew, reader, src, sink, ahead)?;
         if let Next::End = next {
             return Ok(reporter.counts);
         }

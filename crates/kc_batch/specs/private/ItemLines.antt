@@ -1,5 +1,5 @@
 -- Bytes that are whole lines, each of which says an item.
-use Rattle.std.specs.Prelude.{ℕ, ◌+◌, ◌≡◌, ◌≤◌, All, List, [], ◌∷◌, ◌++◌, length}
+use Rattle.std.specs.Prelude.{ℕ, ◌+◌, ◌≡◌, ◌≤◌, All, List, [], ◌∷◌, ◌++◌, length, take}
 use Rattle.kc_graph.specs.declared.items.Item.{Item}
 use Rattle.kc_text.specs.Lines.{lines_from}
 use Rattle.kc_text.specs.Kept.{kept}
@@ -29,3 +29,9 @@ pub record AddLines (rules : Rules) (limit : ℕ) (bytes : List ℕ) (old new : 
   pub new_is : new ≡ old ++ added
   pub say : SayItems limit bytes added
   pub sound : All (IsItemOf rules) added
+
+-- the first `len` bytes add items, which fit the batch
+pub record WalksLines (rules : Rules) (limit : ℕ) (bytes : List ℕ) (old new : List Item) (len : ℕ) : Type 0 where
+  pub few : length new ≤ rules.item_limit
+  pub within : len ≤ length bytes
+  pub adds : AddLines rules limit (take len bytes) old new
