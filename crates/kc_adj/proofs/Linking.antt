@@ -186,3 +186,7 @@ module _ (g : GraphShape) (x own below : List ℕ) (es : List Pair) (i : ℕ) (e
         below_counts = counted_unlinked t.before x e.0 e.1 t.counted.graph order t.removable.0 t.removable.1 1 below t.counted.below_counts;
       });
     }
+
+-- the levels and the counts have an item for each vertex of a graph with as many vertices
+pub sized_as : (g before : GraphShape) (x own below : List ℕ) → IsAdjacency before x own below → g.vertices ≡ before.vertices → (length x ≡ g.vertices) × (length own ≡ g.vertices) × (length below ≡ g.vertices)
+sized_as g before x own below adj same = (adj.sized ∙ sym same, adj.own_counts.sized ∙ sym same, adj.below_counts.sized ∙ sym same)

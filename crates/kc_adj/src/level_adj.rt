@@ -15,7 +15,7 @@ use crate::lifting::{Lift, lift_counts, take_up};
 use crate::passes::par_lift_counts;
 use crate::standing::Standing;
 use crate::steps::Steps;
-use crate::{desired, links, moves};
+use crate::{afresh, desired, links, moves};
 use kc_graph::{Crew, Edge, Graph, MAX_EDGES, MAX_VERTICES};
 use kc_levels::{Levels, Move, Thresholds};
 use std::alloc::{AllocError, Global};
@@ -221,7 +221,11 @@ impl LevelAdj {
         ensures steps_kept { OnErr result (steps.new ≡ steps.old) }
     {
         self.graph.par_insert_all(crew, edges)?;
-        links::count_edges(&self.graph, &self.levels, &mut self.counts, edges);
+        if afresh::are_many(edges, &self.graph) {
+            afresh::count_afresh(crew, &self.graph, &self.levels, &mut self.counts);
+        } else {
+            links::count_edges(&self.graph, &self.levels, &mut self.counts, edges);
+        }
         steps.add_edges(edges.len());
         Ok(())
     }
@@ -245,7 +249,11 @@ impl LevelAdj {
         ensures steps_kept { OnErr result (steps.new ≡ steps.old) }
     {
         self.graph.par_remove_all(crew, edges)?;
-        links::uncount_edges(&self.graph, &self.levels, &mut self.counts, edges);
+        if afresh::are_many(edges, &self.graph) {
+            afresh::count_afresh(crew, &self.graph, &self.levels, &mut self.counts);
+        } else {
+            links::uncount_edges(&self.graph, &self.levels, &mut self.counts, edges);
+        }
         steps.add_edges(edges.len());
         Ok(())
     }

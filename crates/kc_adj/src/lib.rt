@@ -9,6 +9,7 @@
 //! Floor: phases. From above: phases and the engine change and read a [`LevelAdj`].
 #![tactic(auto)]
 
+mod afresh;
 mod counts;
 mod desired;
 mod level_adj;

@@ -1,5 +1,7 @@
-use Rattle.std.proofs.Common.{sym}
-use Rattle.kc_graph.proofs.lemmas.Changes.{can_add_ascending}
+use Rattle.std.proofs.Common.{ap, sym, ◌∙◌}
+use Rattle.kc_graph.specs.Shape.{GraphShape}
+use Rattle.kc_graph.proofs.lemmas.Changes.{can_add_ascending, vertices-with_edges}
+use Rattle.kc_adj.proofs.Linking.{sized_as}
 use Rattle.kc_adj.proofs.level_adj.LevelAdj.link_all.Goals as goal
 
 pub count_edges-requires : goal.count_edges-requires
@@ -9,3 +11,7 @@ count_edges-requires g c = record {
   becomes = sym c.in_ok-par_insert_all.ensures.ok;
   counted = c.self.invariant;
 }
+
+pub count_afresh-requires-clause-sized : goal.count_afresh-requires-clause-sized
+count_afresh-requires-clause-sized g c κs within =
+    sized_as c.par_insert_all.new.self c.self.inside.graph _ _ _ c.self.invariant (ap (λ (h : GraphShape). h.vertices) c.in_ok-par_insert_all.ensures.ok ∙ vertices-with_edges c.self.inside.graph c.args.edges.now)
