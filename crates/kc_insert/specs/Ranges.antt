@@ -12,9 +12,9 @@ pub record Watch : Type 0 where
   pub first : ℕ
   -- what each vertex counts
   pub counts : List ℕ
-  -- the limit of the watch list
+  -- the limit: the greatest count with which a rising vertex stays
   pub most : ℕ
-  -- the watch list
+  -- the watch list: the vertices whose count became the limit, and maybe others
   pub doubtful : List ℕ
 
 -- v is one of the vertices

@@ -145,7 +145,7 @@ impl Range {
     }
 }
 
-// Gives all vertices their fresh counts, range by range (`Range::try_follow`).
+// Calls `Range::try_follow` for each range, with this many threads. A range in which memory ran out is marked.
 fn follow_each<R: Threads + Sync>(rt: &R, threads: usize, fresh: &Fresh<'_>, items: &mut [Range])
     requires threads { 0 < threads }
     requires ready { EachCan (λ _. MayFollow fresh.now) items.old }
@@ -162,7 +162,7 @@ fn follow_each<R: Threads + Sync>(rt: &R, threads: usize, fresh: &Fresh<'_>, ite
     );
 }
 
-// Gives all vertices their fresh counts, range by range. Fails only if memory runs out.
+// Does what `follow_counts` does for each range, with this many threads. Fails only if memory runs out.
 fn follow_all<R: Threads + Sync>(
     rt: &R,
     threads: usize,

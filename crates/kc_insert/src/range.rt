@@ -250,7 +250,8 @@ impl Range {
         }
     }
 
-    /// Forgets the phase.
+    /// Empties the lists of the phase: the vertices that wait, those that began or rose, and the neighbours that are
+    /// still to be met. All else stays.
     pub fn forget(&mut self, alloc: Global)
         ensures { self.new ≡ forgotten self.old }
     {

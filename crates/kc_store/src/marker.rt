@@ -1,3 +1,4 @@
+//! Marks and cleared marks of a part of a group, stored beside the writer.
 ghost use Rattle.std.specs.Prelude.{◌≡◌, ◌<◌, ◌≤◌, true, false};
 ghost use Rattle.kc_groups.specs.WellFormed.{vertex_at};
 ghost use Rattle.kc_store.specs.States.{marker_marked, marker_cleared};

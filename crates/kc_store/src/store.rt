@@ -1,3 +1,4 @@
+//! The table of levels, and how a reader looks a level up.
 ghost use Rattle.std.specs.Prelude.{◌≡◌, ◌≤◌, ◌<◌, length, IfOk};
 ghost use mathlib.Core.List.{IsPrefix};
 ghost use Rattle.kc_store.specs.States.{opened, last_level};

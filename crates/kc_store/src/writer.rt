@@ -1,3 +1,4 @@
+//! The writer of a store: it begins phases, marks their moves, and publishes group after group.
 ghost use Rattle.std.specs.Prelude.{◌≡◌, ◌<◌, ◌≤◌, length};
 ghost use mathlib.Core.List.{IsPrefix};
 ghost use Rattle.kc_groups.specs.WellFormed.{vertex_at};

@@ -100,7 +100,7 @@ fn check_point<R: Abort>(rt: &R, alloc: Global, graph: &Graph, levels: &Levels) 
     }
 }
 
-// Lets an edge come in, or leave.
+// Inserts the edge of a pair if `add`, and removes it otherwise.
 fn change<R: Abort>(rt: &R, alloc: Global, graph: &mut Graph, add: bool, pair: (u32, u32)) {
     let (a, b) = pair;
     assert!(rt; a < b && b < graph.vertices());

@@ -167,7 +167,7 @@ fn batches_come_to_this(rt: HostRuntime) {
     }
 }
 
-// Returns whether an item is of the pair of a and b, or isolates one of them; a < b.
+// Returns whether an item inserts or deletes the edge between a and b, or isolates one of its ends; a < b.
 fn touches(item: Item, a: u32, b: u32) -> bool {
     match item {
         Insert { u, v } | Delete { u, v } => u.min(v) == a && u.max(v) == b,

@@ -6,7 +6,8 @@ use std::sync::Wait;
 use std::test::Fail;
 use std::thread::Threads;
 
-// Puts the line of a client's item at the end. Its vertices are 0 to 7, and 10 to 39.
+// Puts the line of a client's item at the end of its script. The items of a client are numbered by `serial`, and every
+// fifth is a deletion. One vertex is 0 to 7, by the client, and the other 10 to 39, by the item.
 fn put_item<R: Abort>(rt: &R, script: &mut Vec<u8>, client: usize, serial: usize) {
     let sign = if serial % 5 == 4 { b'-' } else { b'+' };
     let u = (client % 8) as u8;
