@@ -38,23 +38,31 @@ fn add_lines(bytes: &[u8], limit: u32, rules: Rules, items: &mut Items) -> Walke
     Ok(bytes.len() - rest.len())
 }
 
-// The least number of bytes of a piece. Fewer than twice as many aren't cut: a thread costs as much as the lines of
-// some 10,000 bytes.
-const LEAST_PIECE: usize = 65_536;
+/// Bytes that begin with lines within a batch.
+#[derive(Clone, Copy)]
+pub struct Lines<'a> {
+    /// The bytes.
+    pub bytes: &'a [u8],
+    /// The most bytes of a line.
+    pub limit: u32,
+    /// The rules of the batch.
+    pub rules: Rules,
+}
 
-/// What walks the bytes of lines: one thread, or the threads of a crew.
+/// What walks over lines: the threads of a crew, or one thread if there is no runtime.
 pub trait Walk {
-    /// What has to hold before a call.
+    /// What has to hold before a call. A crew says here that threads may share its runtime.
     ghost may_walk: { Self → Type 0 };
 
     /// Returns the allocator of what the walk finds.
     fn alloc(&self) -> Global;
 
-    /// Appends the items of the lines with which the bytes begin. Returns the length of these lines.
-    fn add_lines(&self, bytes: &[u8], limit: u32, rules: Rules, items: &mut Items) -> Walked
+    /// Appends the items of the lines with which the bytes begin. Returns the length of these lines. They are whole
+    /// lines of two numbers that add an item, and aren't too long. Fails only if memory runs out.
+    fn walk(&self, lines: Lines<'_>, items: &mut Items) -> Walked
         requires ready { may_walk self.now }
-        requires few { length items.old ≤ rules.item_limit }
-        ensures { IfOk result (WalksLines rules limit bytes.now items.old items.new) };
+        requires few { length items.old ≤ lines.rules.item_limit }
+        ensures { IfOk result (WalksLines lines.entry.rules lines.entry.limit lines.entry.bytes.now items.old items.new) };
 }
 
 /// One thread, which takes memory from this allocator.
@@ -71,10 +79,14 @@ impl Walk for Alone {
         self.alloc
     }
 
-    fn add_lines(&self, bytes: &[u8], limit: u32, rules: Rules, items: &mut Items) -> Walked {
-        add_lines(bytes, limit, rules, items)
+    fn walk(&self, lines: Lines<'_>, items: &mut Items) -> Walked {
+        add_lines(lines.bytes, lines.limit, lines.rules, items)
     }
 }
+
+// The least number of bytes of a piece. Fewer than twice as many aren't cut: a thread costs as much as the lines of
+// some 10,000 bytes.
+const LEAST_PIECE: usize = 65_536;
 
 impl<R: Threads + Sync> Walk for Crew<'_, R> {
     ghost may_walk = { λ _. IsSync R.row };
@@ -83,9 +95,14 @@ impl<R: Threads + Sync> Walk for Crew<'_, R> {
         self.alloc
     }
 
-    // The first lines are walked alone. Only if all of them add items, the threads share the bytes after them: a short
-    // batch ends before that.
-    fn add_lines(&self, bytes: &[u8], limit: u32, rules: Rules, items: &mut Items) -> Walked {
+    // This thread walks the first piece alone. Only if all lines of it add items, the threads share the bytes after it:
+    // a short batch ends before that. Fewer than four pieces aren't shared.
+    fn walk(&self, lines: Lines<'_>, items: &mut Items) -> Walked {
+        let Lines {
+            bytes,
+            limit,
+            rules,
+        } = lines;
         if self.workers < 2 || bytes.len() / 4 < LEAST_PIECE {
             return add_lines(bytes, limit, rules, items);
         }
@@ -95,12 +112,17 @@ impl<R: Threads + Sync> Walk for Crew<'_, R> {
         if first < place {
             return Ok(first);
         }
-        let second = add_parts(self, back, limit, rules, items)?;
+        let back = Lines {
+            bytes: back,
+            limit,
+            rules,
+        };
+        let second = add_parts(self, back, items)?;
         Ok(place + second)
     }
 }
 
-// Returns where the first line that ends at or after a place ends: after its line feed, or with the bytes.
+// Returns the end of the line in which the byte at `place` lies: after its line feed, or that of the bytes.
 fn line_end(bytes: &[u8], place: usize) -> usize
     ensures { result ≤ length bytes.now }
 {
@@ -114,30 +136,35 @@ fn line_end(bytes: &[u8], place: usize) -> usize
 
 // Does what `add_lines` does. If the bytes are many, the threads of the crew share them.
 #[cycle(sharing)]
-fn add_parts<R: Threads + Sync>(
-    crew: &Crew<'_, R>,
-    bytes: &[u8],
-    limit: u32,
-    rules: Rules,
-    items: &mut Items,
-) -> Walked
-    requires few { length items.old ≤ rules.item_limit }
-    ensures { IfOk result (WalksLines rules limit bytes.now items.old items.new) }
+fn add_parts<R: Threads + Sync>(crew: &Crew<'_, R>, lines: Lines<'_>, items: &mut Items) -> Walked
+    requires few { length items.old ≤ lines.rules.item_limit }
+    ensures { IfOk result (WalksLines lines.entry.rules lines.entry.limit lines.entry.bytes.now items.old items.new) }
 {
+    let Lines {
+        bytes,
+        limit,
+        rules,
+    } = lines;
     if crew.workers < 2 || bytes.len() / 2 < LEAST_PIECE {
         return add_lines(bytes, limit, rules, items);
     }
     let place = line_end(bytes, bytes.len() / 2);
+    let (front, back) = bytes.split_at(place);
+    let front = Lines {
+        bytes: front,
+        limit,
+        rules,
+    };
+    let back = Lines {
+        bytes: back,
+        limit,
+        rules,
+    };
     let mut later = Items::new(crew.alloc);
-    let (first, second) = add_both(
-        crew,
-        bytes.split_at(place),
-        (limit, rules),
-        items,
-        &mut later,
-    );
+    let (first, second) = add_both(crew, front, back, items, &mut later);
     let first = first?;
-    // Otherwise what the other thread found is dropped, and these lines are read again.
+    // A line of the first part adds no item, or there would be too many items. The second list is dropped then, and
+    // its lines are read again.
     if first < place || (rules.item_limit as usize) - items.len() < later.len() {
         return Ok(first);
     }
@@ -146,39 +173,29 @@ fn add_parts<R: Threads + Sync>(
     Ok(place + second)
 }
 
-// Does what `add_parts` does for two parts, each with a list of its own. `bounds` are the limit and the rules.
+// Does what `add_parts` does for two parts, each with a list of its own.
 #[cycle(sharing)]
 fn add_both<R: Threads + Sync>(
     crew: &Crew<'_, R>,
-    parts: (&[u8], &[u8]),
-    bounds: (u32, Rules),
+    front: Lines<'_>,
+    back: Lines<'_>,
     items: &mut Items,
     later: &mut Items,
 ) -> (Walked, Walked)
     requires several { 2 ≤ crew.now.workers }
-    requires first { length items.old ≤ bounds.1.item_limit }
-    requires second { length later.old ≤ bounds.1.item_limit }
-    ensures first { IfOk result.0 (WalksLines bounds.1 bounds.0 parts.entry.0.now items.old items.new) }
-    ensures second { IfOk result.1 (WalksLines bounds.1 bounds.0 parts.entry.1.now later.old later.new) }
+    requires front { length items.old ≤ front.rules.item_limit }
+    requires back { length later.old ≤ back.rules.item_limit }
+    ensures front { IfOk result.0 (WalksLines front.entry.rules front.entry.limit front.entry.bytes.now items.old items.new) }
+    ensures back { IfOk result.1 (WalksLines back.entry.rules back.entry.limit back.entry.bytes.now later.old later.new) }
 {
-    let (front, back) = parts;
-    let (limit, rules) = bounds;
     let mut left = || -> Walked
-        requires { IsSync R.row × (2 ≤ crew.now.workers) × (length items.now ≤ rules.item_limit) }
-        ensures { IfOk result (WalksLines rules limit front.entry.now items.entry.now items.exit.now) }
-    { add_parts(&crew.with(crew.workers / 2), front, limit, rules, items) };
+        requires { IsSync R.row × (2 ≤ crew.now.workers) × (length items.now ≤ front.rules.item_limit) }
+        ensures { IfOk result (WalksLines front.entry.rules front.entry.limit front.entry.bytes.now items.entry.now items.exit.now) }
+    { add_parts(&crew.with(crew.workers / 2), front, items) };
     let mut right = || -> Walked
-        requires { IsSync R.row × (2 ≤ crew.now.workers) × (length later.now ≤ rules.item_limit) }
-        ensures { IfOk result (WalksLines rules limit back.entry.now later.entry.now later.exit.now) }
-    {
-        add_parts(
-            &crew.with(crew.workers - crew.workers / 2),
-            back,
-            limit,
-            rules,
-            later,
-        )
-    };
+        requires { IsSync R.row × (2 ≤ crew.now.workers) × (length later.now ≤ back.rules.item_limit) }
+        ensures { IfOk result (WalksLines back.entry.rules back.entry.limit back.entry.bytes.now later.entry.now later.exit.now) }
+    { add_parts(&crew.with(crew.workers - crew.workers / 2), back, later) };
     join_mut(crew.rt, &mut left, &mut right)
 }
 
@@ -201,7 +218,12 @@ pub fn add_items<W: Walk>(
         return Ok(());
     };
     let before = items.len();
-    let len = walk.add_lines(bytes, limit, rules, items)?;
+    let lines = Lines {
+        bytes,
+        limit,
+        rules,
+    };
+    let len = walk.walk(lines, items)?;
     reader.pass_lines(len, items.len() - before);
     Ok(())
 }

@@ -175,7 +175,7 @@ fn find_batch<W: Walk, S: Source, K: Sink>(
 ///
 /// `WriteFault` comes only if a flush failed, and then too the reader isn't used again. As long as each next line of
 /// the batch lies whole in the reader's memory, nothing is read and nothing is flushed. If there are several workers,
-/// threads share the walk over many lines that lie there. No answer depends on the number of workers.
+/// threads share the walk over many lines that lie there. No answer but `Memory` depends on the number of workers.
 pub fn await_batch<R: Threads + Sync, S: Source, K: Sink>(
     crew: &Crew<'_, R>,
     reader: &mut LineReader,

@@ -8,11 +8,11 @@ returns-clause-items g c = let w = c.in_ok-len.ensures in still_items _ _ _ _ _ 
 pub pass_lines-requires-clause-ready : goal.pass_lines-requires-clause-ready
 pass_lines-requires-clause-ready g c =
     let w = c.in_ok-len.ensures in
-    let count : c.len.result - c.len-before.result ≡ length c.add_lines.new.items - length c.args.items.now = rw (c.len.ensures, c.len-before.ensures) refl in
+    let count : c.len.result - c.len-before.result ≡ length c.walk.new.items - length c.args.items.now = rw (c.len.ensures, c.len-before.ensures) refl in
     can_pass c.args.rules _ _ _ _ _ _ c.in-Some.ensures.some w.within (rw c.line_limit-limit.ensures at w.adds) count
 
 pub returns-clause-adds : goal.returns-clause-adds
 returns-clause-adds g c =
     let w = c.in_ok-len.ensures in
-    let count : c.len.result - c.len-before.result ≡ length c.add_lines.new.items - length c.args.items.now = rw (c.len.ensures, c.len-before.ensures) refl in
+    let count : c.len.result - c.len-before.result ≡ length c.walk.new.items - length c.args.items.now = rw (c.len.ensures, c.len-before.ensures) refl in
     rw c.pass_lines.ensures (adds_items c.args.rules _ _ _ _ _ _ c.in-Some.ensures.some w.within w.few (rw c.line_limit-limit.ensures at w.adds) count)

@@ -1,9 +1,0 @@
-use Rattle.std.proofs.Common.{arith}
-use Rattle.kc_batch.proofs.ItemLines.{walk_on}
-use Rattle.kc_batch.proofs.adding.CrewWalk.add_lines.Goals as goal
-
-pub returns : goal.returns
-returns g c =
-    let p = rw c.split_at.ensures.front at c.in_ok-first.ensures in
-    let q = rw c.split_at.ensures.back at c.in_ok-second.ensures in
-    walk_on c.args.rules c.args.limit c.line_end-place.result c.in_ok-first.first c.in_ok-second.second c.args.bytes.now c.args.items.now _ _ c.line_end-place.ensures (omega (arith, c.if-first-place.false)) p q
