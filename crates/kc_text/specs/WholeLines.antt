@@ -52,13 +52,15 @@ pub record OffersLines (bytes : List ℕ) (r : Reading) : Type 0 where
   pub last : r.last ≡ None
   pub scan : Offers bytes r.scan
 
--- the next `len` bytes were read and are within the room, and they can be `count` lines
+-- the next `len` bytes were read and are within the room, and `count` is at most `len`
+--
+-- Each line has a line feed, so there can't be more. That these bytes are `count` lines is for the caller to know.
 pub record AreReady (len count : ℕ) (r : Scan) : Type 0 where
   pub fresh : r.piece ≡ []
   pub room : len ≤ r.room
   pub within : len ≤ length r.ready
   pub few : count ≤ len
 
--- the scan after the first `len` of the bytes that were read, which are `count` lines
+-- the scan after the first `len` of the bytes that were read, if these are `count` lines
 abbrev pub scan_after : ℕ → ℕ → Scan → Scan
 scan_after len count r = record r { number = r.number + count; room = r.room - len; ready = drop len r.ready }

@@ -232,8 +232,9 @@ impl LineReader {
         self.scanner.line_limit()
     }
 
-    /// Takes the first `len` of the bytes that `ready_lines` returned, which are `count` whole lines. Takes no memory,
-    /// and reads nothing. Cost: constant.
+    /// Takes the first `len` of the bytes that `ready_lines` returned, as `count` lines. The caller has counted them:
+    /// the call looks at no byte, and asks only that `count` is at most `len`. Takes no memory, and reads nothing.
+    /// Cost: constant.
     #[inline(always)]
     pub fn pass_lines(&mut self, len: usize, count: usize)
         requires held { self.old.held ≡ None }

@@ -212,7 +212,7 @@ impl Scanner {
         self.line.limit()
     }
 
-    /// Takes the first `len` of the bytes that `ready_lines` returned: `count` whole lines.
+    /// Takes the first `len` of the bytes that `ready_lines` returned, as `count` lines.
     #[inline(always)]
     pub fn pass_lines(&mut self, len: usize, count: usize)
         requires { AreReady len count self.old }

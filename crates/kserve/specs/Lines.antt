@@ -23,7 +23,7 @@ refused_line line reason = printed_line (codes "refused" ∷ codes "line" ∷ de
 abbrev pub batch_line : ℕ → List ℕ
 batch_line number = printed_line (codes "batch" ∷ decimal number ∷ [])
 
--- an item as a line of an input has it
+-- the words of an item's line
 abbrev pub item_words : Item → List (List ℕ)
 item_words (Insert u v) = codes "+" ∷ decimal u ∷ decimal v ∷ []
 item_words (Delete u v) = codes "-" ∷ decimal u ∷ decimal v ∷ []

@@ -31,7 +31,7 @@ pub struct Server {
     buf: LineBuf,
 }
 
-// Hands on what was printed, unless the server has stopped.
+// Flushes the sink, unless the server has stopped.
 fn hand_on<K: Sink>(sink: &mut K, course: Result<(), Stop>) -> Result<(), Stop>
     ensures taken { K.taken sink.new ≡ K.taken sink.old }
     ensures course { IsHandedOn course result }

@@ -52,7 +52,7 @@ fn is_answered(rt: &impl Bench, opening: &Opening) -> bool {
 }
 
 #[test]
-fn numbers_out_of_range_are_refused(rt: HostRuntime) {
+fn options_at_and_past_their_limits(rt: HostRuntime) {
     for opening in OPENINGS {
         assert!(rt; is_answered(&rt, opening));
     }

@@ -47,7 +47,7 @@ fn run_failing<R: Bench, G: Gate + Sync>(
     (ended, sink)
 }
 
-// Does what `run_failing` does, of a session that ends well.
+// Runs a session that ends well. Returns its end and the sink with its text.
 pub(crate) fn run<R: Bench, G: Gate + Sync>(
     rt: &R,
     gate: &G,

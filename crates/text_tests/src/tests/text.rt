@@ -81,6 +81,7 @@ fn told(rt: &impl Bench, text: &str, piece: u32, failing: &[u32], whole: bool) -
     out
 }
 
+// Checks the answers to an input, also where whole lines are passed in the reader's memory.
 fn check_told(rt: &impl Bench, text: &str, piece: u32, failing: &[u32], want: &str) {
     check(rt, text, &told(rt, text, piece, failing, false), want);
     check(rt, text, &told(rt, text, piece, failing, true), want);

@@ -232,7 +232,7 @@ fn told_of_sends(rt: &impl Bench, piece: u32, failing: &[u32]) -> Vec<u8> {
 }
 
 #[test]
-fn sends_lines(rt: HostRuntime) {
+fn sends_with_and_without_faults(rt: HostRuntime) {
     for (piece, failing, want) in SENDS {
         check(&rt, "two sends", &told_of_sends(&rt, *piece, failing), want);
     }
