@@ -152,12 +152,14 @@ fn edges_come_and_leave_together(rt: HostRuntime) {
     }
 }
 
-// Returns all pairs of vertices below n that are at most 40 apart.
-fn near_pairs(rt: &impl Abort, alloc: Global, n: u32) -> Vec<(u32, u32)> {
+// Returns the first pairs of vertices below n that are at most 40 apart, up to this number of them.
+fn near_pairs(rt: &impl Abort, alloc: Global, n: u32, most: usize) -> Vec<(u32, u32)> {
     let mut pairs = Vec::new(alloc);
     for a in 0..n {
         for b in a + 1..n.min(a.saturating_add(41)) {
-            pairs.push((a, b)).expect(rt, "memory");
+            if pairs.len() < most {
+                pairs.push((a, b)).expect(rt, "memory");
+            }
         }
     }
     pairs
@@ -175,21 +177,27 @@ fn have_same_rows(g: &Graph, h: &Graph) -> bool {
     true
 }
 
-// Nearly 40,000 edges, which several threads add and remove. The graph is that of edges which come in one by one.
+// Numbers of edges: fewer than 2,048 come in one by one and leave so. More are dealt to rows, at most nearly 40,000,
+// which several threads add and remove.
+const LENGTHS: [usize; 4] = [2_047, 2_048, 4_100, 40_000];
+
+// The graph is that of edges which come in one by one.
 #[test]
 fn any_number_of_threads(rt: HostRuntime) {
     let far: Pairs = &[(0, 50), (3, 999), (500, 600)];
-    let near = near_pairs(&rt, rt.alloc(), 1000);
     let before = graph(&rt, rt.alloc(), 1000, far);
-    let mut all = near_pairs(&rt, rt.alloc(), 1000);
-    all.extend_from_slice(far).expect(&rt, "memory");
-    let want = graph(&rt, rt.alloc(), 1000, &all);
-    let mut graph = graph(&rt, rt.alloc(), 1000, far);
-    for workers in [1, 2, 4, 64] {
-        put_in(&rt, rt.alloc(), workers, &mut graph, &near);
-        assert!(rt; have_same_rows(&graph, &want));
-        take_out(&rt, rt.alloc(), workers, &mut graph, &near);
-        assert!(rt; have_same_rows(&graph, &before));
+    for most in LENGTHS {
+        let near = near_pairs(&rt, rt.alloc(), 1000, most);
+        let mut all = near_pairs(&rt, rt.alloc(), 1000, most);
+        all.extend_from_slice(far).expect(&rt, "memory");
+        let want = graph(&rt, rt.alloc(), 1000, &all);
+        let mut graph = graph(&rt, rt.alloc(), 1000, far);
+        for workers in [1, 2, 3, 4, 64] {
+            put_in(&rt, rt.alloc(), workers, &mut graph, &near);
+            assert!(rt; have_same_rows(&graph, &want));
+            take_out(&rt, rt.alloc(), workers, &mut graph, &near);
+            assert!(rt; have_same_rows(&graph, &before));
+        }
     }
 }
 
