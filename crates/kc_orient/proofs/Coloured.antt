@@ -3,6 +3,7 @@ use Rattle.std.proofs.Common.{ℕ, suc, ◌+◌, ◌≤◌, ◌<◌, ◌≡◌, 
 use Rattle.std.proofs.lemmas.Bool.{cases_eq, cases_lt, true≢false}
 use Rattle.std.proofs.lemmas.List.{get_or-set_same, get_or-set_other, get_or-replicate, get_or_past}
 use Rattle.std.proofs.Math.ListN.{length-set, length-replicate}
+use Rattle.std.proofs.lemmas.Bool.Decides.{nat_tests}
 use Rattle.kc_graph.specs.Numbers.{has_number}
 use Rattle.kc_orient.specs.Shape.{above, OrientationShape, IsOriented}
 use Rattle.kc_orient.specs.Colouring.{IsLeastFree, IsColouring}
@@ -26,10 +27,7 @@ coloured_none o firsts nexts colours marks most linked few blank clean = record 
     long = ap length clean ∙ length-replicate (most + 1) 0
 
     none : (k : ℕ) → get_or marks k 0 ≡ 0
-    none k = elim (cases_lt k (most + 1)) [
-      | inl lt ↦ ap (λ (xs : List ℕ). get_or xs k 0) clean ∙ get_or-replicate (most + 1) k 0 0 lt
-      | inr past ↦ get_or_past marks k 0 (omega (arith, long, past))
-    ]
+    none k = grind (arith, nat_tests, get_or-replicate, get_or_past, long)
 
 -- on to the level below
 pub coloured_down : (o : OrientationShape) (l n : ℕ) (colours marks : List ℕ) → n ≡ length o.levels → IsColouredTo o (suc l) 0 colours marks → IsColouredTo o l n colours marks
@@ -50,10 +48,7 @@ coloured_skip o l m r colours marks next is = record {
   sized = is.sized;
   room = is.room;
   fits = is.fits;
-  least = λ v h passed. is.least v h (elim passed [
-    | inl over ↦ inl over
-    | inr at ↦ elim (cases_lt v m) [ inl lt ↦ absurd (next.none v at.1 lt at.0) | inr ge ↦ inr (at.0, ge) ]
-  ]);
+  least = λ v h passed. grind (arith, nat_tests, is.least, next.none);
   marked = λ k v e. elim (is.marked k v e) [ inl over ↦ inl over | inr at ↦ inr (at.0, omega (arith, at.1, next.within)) ];
 }
 
@@ -67,18 +62,12 @@ pub coloured_here : (o : OrientationShape) (l v r : ℕ) (colours old new : List
 coloured_here o l v r colours old new oriented h at is free few stamped = record {
   sized = length-set colours v r ∙ is.sized;
   room = λ u below. omega (arith, is.room u below, stamped.sized);
-  fits = λ u below. elim (cases_eq u v) [
-    | inl same ↦ rw (same, now) (omega (arith, few, is.room v h, stamped.sized))
-    | inr ne ↦ rw (get_or-set_other colours v u r 0 ne) (omega (arith, is.fits u below, stamped.sized))
-  ];
+  fits = λ u below. grind (arith, nat_tests, cases_eq u v, now, get_or-set_other, is.room, stamped.sized, is.fits);
   least = λ u below passed. elim (cases_eq u v) [
     | inl same ↦ rw (same, now) (least_free_same (get_or o.outs v []) colours (set colours v r) r (λ w near. get_or-set_other colours v w r 0 (λ e. itself w near e)) free)
     | inr ne ↦ rw (get_or-set_other colours v u r 0 ne) (least_free_same (get_or o.outs u []) colours (set colours v r) (get_or colours u 0) (λ w near. get_or-set_other colours v w r 0 (λ e. earlier u w ne passed near e)) (is.least u below (before u ne passed)))
   ];
-  marked = λ k u e. elim (stamped.each k) [
-    | inl kept ↦ elim (is.marked k u (sym kept ∙ e)) [ inl over ↦ inl over | inr past ↦ inr (past.0, omega (arith, past.1)) ]
-    | inr fresh ↦ let same : u ≡ v = omega (arith, e, fresh) in inr (ap (λ (w : ℕ). get_or o.levels w 0) same ∙ at, omega (arith, same))
-  ];
+  marked = λ k u e. grind (arith, nat_tests, stamped.each, is.marked);
 }
   where
     now : get_or (set colours v r) v 0 ≡ r
@@ -91,12 +80,7 @@ coloured_here o l v r colours old new oriented h at is free few stamped = record
     before u ne passed = elim passed [ inl over ↦ inl over | inr past ↦ inr (past.0, omega (arith, past.1, ne)) ]
 
     earlier : (u w : ℕ) → u ≢ v → IsPassed o.levels l v u → has_number w (get_or o.outs u []) ≡ true → w ≢ v
-    earlier u w ne passed near e =
-        let up : above o.levels u v ≡ true = ap (above o.levels u) (sym e) ∙ oriented.upward u w near in
-        elim (above_is o.levels u v up) [
-          | inl lower ↦ elim passed [ inl over ↦ omega (arith, lower, over, at) | inr past ↦ omega (arith, lower, past.0, at) ]
-          | inr lesser ↦ elim passed [ inl over ↦ omega (arith, lesser.0, over, at) | inr past ↦ omega (arith, lesser.1, past.1) ]
-        ]
+    earlier u w ne passed near e = grind (arith, nat_tests, above_is, oriented.upward)
 
 pub coloured_all : (o : OrientationShape) (colours marks : List ℕ) → IsOriented o → IsColouredTo o 0 0 colours marks → IsColouring o.outs colours
 coloured_all o colours marks oriented is = record {

@@ -37,10 +37,7 @@ same_step : (outs : List (List ℕ)) (c d : List ℕ) → IsColouring outs c →
 same_step outs c d p q v h higher = least_free_is_one (get_or outs v []) d _ _ (least_free_same (get_or outs v []) c d (get_or c v 0) each (p.least v h)) (q.least v h)
   where
     each : (w : ℕ) → has_number w (get_or outs v []) ≡ true → get_or d w 0 ≡ get_or c w 0
-    each w at = elim (cases_lt w (length outs)) [
-      | inl lt ↦ sym (higher w at lt)
-      | inr past ↦ get_or_past d w 0 (omega (arith, past, q.sized)) ∙ sym (get_or_past c w 0 (omega (arith, past, p.sized)))
-    ]
+    each w at = grind (arith, nat_tests, get_or_past, q.sized, p.sized)
 
 -- by the level, and then by the number, the greatest first
 same_at : (x : List ℕ) (outs : List (List ℕ)) (c d : List ℕ) (top : ℕ) → ((v : ℕ) → get_or x v 0 ≤ top) → ((v w : ℕ) → has_number w (get_or outs v []) ≡ true → above x v w ≡ true) → IsColouring outs c → IsColouring outs d →
@@ -58,8 +55,7 @@ same_at x outs c d top capped up p q (suc i) (suc j) v h a b =
     ])
 
 within_both : (a m : ℕ) (xs : List ℕ) → ((v : ℕ) → get_or xs v 0 ≤ m) → (v : ℕ) → get_or (a ∷ xs) v 0 ≤ a + m
-within_both a m xs each zero = omega arith
-within_both a m xs each (suc v) = omega (arith, each v)
+within_both a m xs each v = grind (arith, nat_tests)
 
 pub bounded : (x : List ℕ) → (m : ℕ) × ((v : ℕ) → get_or x v 0 ≤ m)
 bounded [] = (0, λ v. omega arith)

@@ -63,9 +63,7 @@ from_map f j (u ∷ ws) at = elim (cases_eq (f u) j) [
 
 map_same : (f h : ℕ → ℕ) (ws : List ℕ) → ((w : ℕ) → has_number w ws ≡ true → f w ≡ h w) → map f ws ≡ map h ws
 map_same f h [] each = refl
-map_same f h (w ∷ ws) each = rw (each w (rw (eq-eqb w w refl) refl), map_same f h ws (λ u at. each u (or_right (eqb w u) _ at))) refl
-
--- colours by a number of steps upward, and how many are enough
+map_same f h (w ∷ ws) each = grind (arith, nat_tests, map_same f h ws (λ u at. each u (or_right (eqb w u) _ at)), eq-eqb, or_right)
 
 colour_by : List (List ℕ) → ℕ → ℕ → ℕ
 colour_by outs zero v = 0

@@ -1,11 +1,12 @@
 -- Filling the lists of out-neighbours, one vertex after another.
-use Rattle.std.proofs.Common.{ℕ, suc, ◌+◌, ◌≤◌, ◌<◌, ◌≡◌, inl, inr, List, [], ◌∷◌, ◌++◌, length, get_or, map, refl, ap, sym, ◌∙◌, arith, subst, drop, length-append}
+use Rattle.std.proofs.Common.{ℕ, suc, ◌+◌, ◌≤◌, ◌<◌, ◌≡◌, List, [], ◌∷◌, ◌++◌, length, get_or, map, refl, ap, sym, ◌∙◌, arith, subst, drop, length-append}
 use Rattle.std.specs.List.{range_with_len, slice_range}
 use Rattle.std.proofs.lemmas.Bool.{cases_eq}
 use Rattle.std.proofs.lemmas.List.{length_push, get_or_push, take-append-le, take_all, drop_at, ext_get_or}
 use Rattle.std.proofs.lemmas.List.FromFn.{get_or-map-range_with_len, length-map-range_with_len}
 use Rattle.std.proofs.lemmas.Slice.{between_is}
 use Rattle.std.proofs.Math.ListN.{get_or-append}
+use Rattle.std.proofs.lemmas.Bool.Decides.{nat_tests}
 use Rattle.kc_graph.specs.declared.limits.TheConstants.{MAX_VERTICES}
 use Rattle.kc_graph.specs.Shape.{GraphShape, IsGraph}
 use Rattle.kc_orient.specs.Shape.{out_neighbours, orientation, IsOriented}
@@ -46,18 +47,9 @@ filling_more g x k starts heads heads' is e = record {
   sized = length_push starts _ ∙ omega (arith, is.sized);
   last = next;
   count = long ∙ omega (arith, is.count);
-  rising = λ v lt. elim (cases_eq v k) [
-    | inl same ↦ rw (same, old k (omega arith), add_k) (rw next (omega (arith, is.last, long)))
-    | inr ne ↦ rw (old v (omega arith), old (v + 1) (omega (arith, lt, ne))) (is.rising v (omega (arith, lt, ne)))
-  ];
-  within = λ v lt. elim (cases_eq v k) [
-    | inl same ↦ rw (same, add_k, next) (omega arith)
-    | inr ne ↦ rw (old (v + 1) (omega (arith, lt, ne))) (omega (arith, is.within v (omega (arith, lt, ne)), long))
-  ];
-  lists = λ v lt. elim (cases_eq v k) [
-    | inl same ↦ rw (same, old k (omega arith), add_k, next, is.last, e) (added heads (out_neighbours g x k))
-    | inr ne ↦ rw (old v (omega arith), old (v + 1) (omega (arith, lt, ne)), e) (kept starts heads (out_neighbours g x k) (get_or starts v 0) (get_or starts (v + 1) 0) (is.within v (omega (arith, lt, ne))) ∙ is.lists v (omega (arith, lt, ne)))
-  ];
+  rising = λ v lt. grind (arith, nat_tests, cases_eq v k, old, add_k, next, long, is.last, is.rising);
+  within = λ v lt. grind (arith, nat_tests, cases_eq v k, add_k, next, old, long, is.within);
+  lists = λ v lt. grind (arith, nat_tests, cases_eq v k, old, add_k, next, added, kept, is.last, is.within, is.lists);
 }
   where
     long : length heads' ≡ length heads + length (out_neighbours g x k)

@@ -1,7 +1,8 @@
 -- What an orientation keeps, read from its lists.
-use Rattle.std.proofs.Common.{ℕ, ◌<◌, ◌≡◌, inl, inr, List, [], length, get_or, sym, ◌∙◌, arith, false}
-use Rattle.std.proofs.lemmas.Bool.{cases_Bool, true≢false}
+use Rattle.std.proofs.Common.{ℕ, ◌<◌, ◌≡◌, List, [], length, get_or, arith, false}
+use Rattle.std.proofs.lemmas.Bool.{true≢false}
 use Rattle.std.proofs.lemmas.List.FromFn.{get_or-map-range_with_len}
+use Rattle.std.proofs.lemmas.Bool.Decides.{nat_tests}
 use Rattle.kc_graph.specs.Numbers.{has_number}
 use Rattle.kc_graph.specs.private.Numbers.{put}
 use Rattle.kc_graph.proofs.lemmas.Numbers.{length-rising, rises_from_put, below_from_put, length-put}
@@ -18,7 +19,4 @@ fewer_out o v is h =
     omega (arith, length-put v (get_or o.outs v []) absent, length-rising (length o.levels) 0 (put v (get_or o.outs v [])) (rises_from_put 0 v (get_or o.outs v []) (is.ascending v) (omega arith)) (below_from_put (length o.levels) v (get_or o.outs v []) (is.below v) h) (omega arith))
   where
     absent : has_number v (get_or o.outs v []) ≡ false
-    absent = elim (cases_Bool (has_number v (get_or o.outs v []))) [
-      | inl at ↦ absurd (true≢false (sym (is.upward v v at) ∙ above_itself o.levels v))
-      | inr out ↦ out
-    ]
+    absent = grind (arith, nat_tests, true≢false, above_itself, is.upward)

@@ -19,19 +19,10 @@ pub marking_more : (vertices colours : List ℕ) (stamp i w k : ℕ) (old new : 
 marking_more vertices colours stamp i w k old new is h w_is k_is room = record {
   marked = record {
     sized = length-set new k stamp ∙ is.marked.sized;
-    each = λ j. elim (cases_eq j k) [
-      | inl same ↦ inr (rw same now)
-      | inr ne ↦ elim (is.marked.each j) [ inl kept ↦ inl (get_or-set_other new k j stamp 0 ne ∙ kept) | inr stamped ↦ inr (get_or-set_other new k j stamp 0 ne ∙ stamped) ]
-    ];
+    each = λ j. grind (arith, nat_tests, cases_eq j k, now, get_or-set_other, is.marked.each);
   };
-  all = λ u at. elim (cases_eq (get_or colours u 0) k) [
-    | inl same ↦ rw same now
-    | inr ne ↦ get_or-set_other new k (get_or colours u 0) stamp 0 ne ∙ is.all u (before u (λ e. ne (ap (λ (t : ℕ). get_or colours t 0) (sym e) ∙ sym k_is)) at)
-  ];
-  only = λ j below e. elim (cases_eq j k) [
-    | inl same ↦ (w, has_number_at w vertices i h (sym w_is), sym k_is ∙ sym same)
-    | inr ne ↦ is.only j below (sym (get_or-set_other new k j stamp 0 ne) ∙ e)
-  ];
+  all = λ u at. grind (arith, nat_tests, cases_eq (get_or colours u 0) k, now, get_or-set_other, before, is.all);
+  only = λ j below e. grind (arith, nat_tests, cases_eq j k, has_number_at, get_or-set_other, is.only);
 }
   where
     now : get_or (set new k stamp) k 0 ≡ stamp
