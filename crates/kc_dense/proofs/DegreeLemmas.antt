@@ -105,9 +105,7 @@ handshake g xs graph once = go 0 0 g.edges graph
                 let there : has_number e.1 (y ∷ ys) ≡ true = ap (λ u. has_number u (y ∷ ys)) second ∙ has_first y ys in
                 let other : has_number e.0 (y ∷ ys) ≡ has_number e.0 ys = has_other e.0 y ys differs in
                 rw (wide, narrow, here, there, other) (omega (arith, rw gone at later))
-            | inr apart_too ↦
-                let here : count_by (members_of xs) (neighbours_of y (e ∷ es)) ≡ count_by (members_of xs) (neighbours_of y es) = rw (ne_eqb e.0 y differs, ne_eqb e.1 y apart_too) refl in
-                rw (wide, narrow, here, has_other e.0 y ys differs, has_other e.1 y ys apart_too) (omega (arith, later))
+            | inr apart_too ↦ grind (arith, nat_tests, ne_eqb, has_other, apart_too)
           ]
         ]
 

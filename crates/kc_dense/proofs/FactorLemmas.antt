@@ -1,9 +1,10 @@
 -- No vertices of a graph are more than twice as dense as the densest suffix of a peeling list.
 use Rattle.std.proofs.Common.{ℕ, suc, ◌+◌, ◌*◌, ◌≤◌, ◌<◌, ◌≡◌, inl, inr, Bool, true, false, ◌&&◌, List, [], ◌∷◌, ◌++◌, length, refl, ap, sym, arith, subst, zero-add}
 use Rattle.std.specs.Prelude.{count_by, sum_by}
-use Rattle.std.proofs.lemmas.Bool.{cases_eq, cases_lt, cases_Bool}
+use Rattle.std.proofs.lemmas.Bool.{cases_lt, cases_Bool}
 use Rattle.std.proofs.lemmas.Nat.{mul-le}
 use Rattle.std.proofs.lemmas.List.Sums.{sum_by-cons}
+use Rattle.std.proofs.lemmas.Bool.Decides.{nat_tests}
 use Rattle.kc_graph.specs.Numbers.{has_number}
 use Rattle.kc_graph.specs.Shape.{GraphShape, IsGraph}
 use Rattle.kc_graph.proofs.lemmas.Counts.{count_by-cons}
@@ -57,9 +58,7 @@ factor g t e b (v ∷ vs) graph once peeled bound =
     let later : edges_within g (λ u. t u && has_number u vs) * b ≤ 2 * e * count_by t vs =
     factor g t e b vs graph once.1 peeled.1 (λ other is. bound other (record { front = v ∷ is.front; is = ap (λ (xs : List ℕ). v ∷ xs) is.is; some = is.some })) in
     elim (cases_Bool (t v)) [
-      | inr out ↦
-          let same : edges_within g (λ u. t u && has_number u (v ∷ vs)) ≡ edges_within g (λ u. t u && has_number u vs) = edges_agree g _ _ (left_out out) in
-          rw (same, count_by-cons t v vs, out, zero-add (count_by t vs)) later
+      | inr out ↦ grind (arith, nat_tests, edges_agree, left_out, count_by-cons, zero-add, out)
       | inl there ↦
           let enough : degree_within g (members_of (v ∷ vs)) v * suc (length vs) ≤ 2 * edges_within g (members_of (v ∷ vs)) = half g (v ∷ vs) _ graph once peeled.0.least in
           let few : degree_within g (members_of (v ∷ vs)) v * b ≤ 2 * e = cancel _ (suc (length vs)) _ b e enough (bound (v ∷ vs) (record { front = []; is = refl; some = omega arith })) (omega arith) in
@@ -73,10 +72,7 @@ factor g t e b (v ∷ vs) graph once peeled bound =
     second p q h = grind (arith, h)
 
     left_out : t v ≡ false → (u : ℕ) → t u && has_number u (v ∷ vs) ≡ t u && has_number u vs
-    left_out out u = elim (cases_eq u v) [
-      | inl same ↦ rw (ap t same, out) refl
-      | inr ne ↦ ap (λ q. t u && q) (has_other u v vs ne)
-    ]
+    left_out out u = grind (arith, nat_tests, has_other)
 
     without : t v ≡ true → IsWithout v (λ u. t u && has_number u (v ∷ vs)) (λ u. t u && has_number u vs)
     without there = record {

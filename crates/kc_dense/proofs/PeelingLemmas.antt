@@ -41,10 +41,7 @@ peeled_is_one g (u ∷ us) (v ∷ vs) once_u once_v same one other =
 pub peeling_has : (g : GraphShape) (vs : List ℕ) → IsPeelingList g vs → (u : ℕ) → has_number u vs ≡ ltb u g.vertices
 peeling_has g vs is u = elim (cases_Bool (has_number u vs)) [
   | inl there ↦ there ∙ sym (lt-ltb u g.vertices (all_at (λ v. v < g.vertices) vs u is.vertices.inside there))
-  | inr absent ↦ elim (cases_Bool (ltb u g.vertices)) [
-    | inl below ↦ absurd (true≢false (sym (is.all u (ltb-true u g.vertices below)) ∙ absent))
-    | inr above ↦ absent ∙ sym above
-  ]
+  | inr absent ↦ grind (arith, nat_tests, cases_Bool (ltb u g.vertices), true≢false, ltb-true, is.all)
 ]
 
 pub peeling_length : (g : GraphShape) (vs : List ℕ) → IsPeelingList g vs → length vs ≡ g.vertices
@@ -69,27 +66,15 @@ split u x xs e = elim (cases_eq u x) [ inl same ↦ inl same | inr ne ↦ inr (s
 least_first : (f : ℕ → ℕ) (x v : ℕ) (xs : List ℕ) → IsLeastOf f xs v → (f x < f v) ⊎ ((f x ≡ f v) × (x ≤ v)) → IsLeastOf f (x ∷ xs) x
 least_first f x v xs is before = record {
   there = has_first x xs;
-  least = λ u e. elim (split u x xs e) [
-    | inl same ↦ omega (arith, ap f same)
-    | inr later ↦ elim before [ inl lt ↦ omega (arith, is.least u later, lt) | inr tie ↦ omega (arith, is.least u later, tie.0) ]
-  ];
-  first = λ u e equal. elim (split u x xs e) [
-    | inl same ↦ omega (arith, same)
-    | inr later ↦ elim before [ inl lt ↦ absurd (omega (arith, is.least u later, lt, equal)) | inr tie ↦ omega (arith, is.first u later (equal ∙ tie.0), tie.1) ]
-  ];
+  least = λ u e. grind (arith, nat_tests, split, is.least);
+  first = λ u e equal. grind (arith, nat_tests, split, is.least, is.first);
 }
 
 least_later : (f : ℕ → ℕ) (x v : ℕ) (xs : List ℕ) → IsLeastOf f xs v → (f v < f x) ⊎ ((f v ≡ f x) × (v ≤ x)) → IsLeastOf f (x ∷ xs) v
 least_later f x v xs is before = record {
   there = has_rest v x xs is.there;
-  least = λ u e. elim (split u x xs e) [
-    | inl same ↦ elim before [ inl lt ↦ omega (arith, ap f same, lt) | inr tie ↦ omega (arith, ap f same, tie.0) ]
-    | inr later ↦ is.least u later
-  ];
-  first = λ u e equal. elim (split u x xs e) [
-    | inl same ↦ elim before [ inl lt ↦ absurd (omega (arith, ap f same, lt, equal)) | inr tie ↦ omega (arith, same, tie.1) ]
-    | inr later ↦ is.first u later equal
-  ];
+  least = λ u e. grind (arith, nat_tests, split, is.least);
+  first = λ u e equal. grind (arith, nat_tests, split, is.first);
 }
 
 least_of : (f : ℕ → ℕ) (x : ℕ) (xs : List ℕ) → (v : ℕ) × IsLeastOf f (x ∷ xs) v
@@ -109,10 +94,7 @@ least_of f x (y ∷ ys) =
         | inl lt ↦ (is.0, least_later f x is.0 (y ∷ ys) is.1 (inl lt))
         | inr le ↦
             let equal : f x ≡ f is.0 = omega arith in
-            elim (cases_lt x is.0) [
-              | inl lt ↦ (x, least_first f x is.0 (y ∷ ys) is.1 (inr (equal, omega arith)))
-              | inr most ↦ (is.0, least_later f x is.0 (y ∷ ys) is.1 (inr (sym equal, most)))
-            ]
+            grind (arith, nat_tests, cases_lt x is.0, least_first, least_later)
       ]
     ]
 
@@ -143,10 +125,7 @@ peeling_of g (suc k) (x ∷ xs) e once =
     gone v = has_number-without v v (x ∷ xs) ∙ rw (eq-eqb v v refl) refl
 
     same : (v : ℕ) → has_number v (x ∷ xs) ≡ true → (vs : List ℕ) → ((u : ℕ) → has_number u vs ≡ has_number u (without v (x ∷ xs))) → (u : ℕ) → has_number u (v ∷ vs) ≡ has_number u (x ∷ xs)
-    same v there vs rest u = elim (cases_eq u v) [
-      | inl e ↦ ap (λ w. has_number w (v ∷ vs)) e ∙ has_first v vs ∙ sym there ∙ ap (λ w. has_number w (x ∷ xs)) (sym e)
-      | inr ne ↦ has_other u v vs ne ∙ rest u ∙ has_number-without u v (x ∷ xs) ∙ rw (ne_eqb v u (λ f. ne (sym f))) refl
-    ]
+    same v there vs rest u = grind (arith, nat_tests, has_first, has_other, has_number-without, ne_eqb)
 
 pub each_has_peeling_list : EachHasPeelingList
 each_has_peeling_list g =

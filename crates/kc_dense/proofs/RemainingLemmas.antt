@@ -1,7 +1,7 @@
 -- What the degrees among the vertices that are left become where one vertex is taken.
 use Rattle.std.proofs.Common.{ℕ, suc, zero, ◌+◌, ◌-◌, ◌≤◌, ◌<◌, ◌≡◌, ◌≢◌, inl, inr, Bool, true, false, not, ◌||◌, cond, eqb, ltb, List, [], ◌∷◌, ◌++◌, length, get_or, set, take, refl, ap, sym, ◌∙◌, arith}
 use Rattle.std.proofs.Math.ListN.{length-set}
-use Rattle.std.proofs.lemmas.Bool.{cases_eq, cases_lt, cases_Bool, true≢false, and_parts, ltb-true, ltb-false, lt-ltb, le-ltb, eq-eqb, ne_eqb}
+use Rattle.std.proofs.lemmas.Bool.{cases_eq, cases_Bool, true≢false, and_parts, ltb-true, ltb-false, lt-ltb, le-ltb, eq-eqb, ne_eqb}
 use Rattle.std.proofs.lemmas.List.{get_or-set_same, get_or-set_other, get_or_default, get_or_past}
 use Rattle.std.proofs.lemmas.Bool.Decides.{nat_tests}
 use Rattle.kc_graph.specs.declared.limits.TheConstants.{MAX_VERTICES}
@@ -39,12 +39,7 @@ remaining_first g degrees graph fits sized values small = (
 )
   where
     all : (u : ℕ) → is_left degrees u ≡ ltb u g.vertices
-    all u = elim (cases_lt u g.vertices) [
-      | inl lt ↦
-          let here : get_or degrees u TAKEN ≡ get_or degrees u 0 = get_or_default degrees u TAKEN 0 (omega (arith, lt, sized)) in
-          lt-ltb (get_or degrees u TAKEN) TAKEN (omega (arith, here, small u lt, fits)) ∙ sym (lt-ltb u g.vertices lt)
-      | inr ge ↦ ap (λ d. ltb d TAKEN) (get_or_past degrees u TAKEN (omega (arith, ge, sized))) ∙ sym (le-ltb u g.vertices ge)
-    ]
+    all u = grind (arith, nat_tests, get_or_default, lt-ltb, get_or_past, le-ltb)
 
 -- the least degree is that of the next vertex
 pub next_least : (g : GraphShape) (degrees : List ℕ) (v : ℕ) → AreRemaining g degrees → ((u : ℕ) × (is_left degrees u ≡ true)) → IsFirstLeast degrees v → IsNext g (is_left degrees) v × (get_or degrees v 0 ≡ degree_within g (is_left degrees) v)
@@ -62,10 +57,7 @@ pub falling_more : (before : List ℕ) (v : ℕ) (seen : List ℕ) (degrees : Li
     AreFalling before v (seen ++ w ∷ []) (set degrees w (lowered (get_or degrees w 0)))
 falling_more before v seen degrees w is new inside = record {
   sized = length-set degrees w (lowered (get_or degrees w 0)) ∙ is.sized;
-  fall = λ u. elim (cases_eq u w) [
-    | inl e ↦ rw (e, get_or-set_same degrees w (lowered (get_or degrees w 0)) TAKEN inside, has_number-push w w seen, eq-eqb w w refl, none (has_number w seen)) (ap lowered here)
-    | inr ne ↦ rw (get_or-set_other degrees w u (lowered (get_or degrees w 0)) TAKEN ne, has_number-push u w seen, ne_eqb w u (λ f. ne (sym f)), same (has_number u seen)) (is.fall u)
-  ];
+  fall = λ u. grind (arith, nat_tests, cases_eq u w, get_or-set_same, has_number-push, eq-eqb, none, here, get_or-set_other, ne_eqb, same, is.fall);
 }
   where
     none : (b : Bool) → b || true ≡ true
@@ -125,21 +117,13 @@ falling_last g before v degrees graph remaining left is = (
     here = is.fall v ∙ rw (no_own_neighbour g.vertices 0 0 v g.edges graph) (get_or-set_same before v TAKEN TAKEN (left_inside before v left))
 
     kept : (h : Bool) (d : ℕ) → ltb (cond h (lowered d) d) TAKEN ≡ ltb d TAKEN
-    kept false d = refl
-    kept true d = elim (cases_lt d TAKEN) [
-      | inl lt ↦ rw (lt-ltb d TAKEN lt) (lt-ltb (d - 1) TAKEN (omega (arith, lt)))
-      | inr ge ↦ rw (le-ltb d TAKEN ge) (le-ltb d TAKEN ge)
-    ]
+    kept h d = grind (arith, nat_tests, lt-ltb, le-ltb)
 
     others : (u : ℕ) → is_left degrees u ≡ all_but v (is_left before) u
-    others u = elim (cases_eq u v) [
-      | inl e ↦ ap (λ w. is_left degrees w) e ∙ ap (λ d. ltb d TAKEN) here ∙ rw (e, eq-eqb v v refl) refl
-      | inr ne ↦ ap (λ d. ltb d TAKEN) (at u ne) ∙ kept (has_number u (neighbours_of v g.edges)) (get_or before u TAKEN) ∙ rw (ne_eqb u v ne) refl
-    ]
+    others u = grind (arith, nat_tests, here, eq-eqb, at, kept, ne_eqb)
 
     lost : (h : Bool) (d big few : ℕ) → ltb d TAKEN ≡ true → d ≡ big → big ≡ few + cond h 1 0 → cond h (lowered d) d ≡ few
-    lost false d big few left is_big fewer = omega (arith, is_big, fewer)
-    lost true d big few left is_big fewer = rw left (omega (arith, is_big, fewer))
+    lost h d big few left is_big fewer = grind (arith, nat_tests)
 
 -- a number of a rising list is none of those before it
 pub rising_new : (low : ℕ) (xs : List ℕ) (i : ℕ) → RisesFrom low xs → i < length xs → has_number (get_or xs i 0) (take i xs) ≡ false

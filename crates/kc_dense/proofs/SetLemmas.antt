@@ -39,9 +39,7 @@ once_without v (x ∷ xs) once = grind (arith, nat_tests, once_without v xs once
 pub length-without : (v : ℕ) (xs : List ℕ) → IsOnce xs → has_number v xs ≡ true → length (without v xs) + 1 ≡ length xs
 length-without v [] once e = cc
 length-without v (x ∷ xs) once e = elim (cases_eq x v) [
-  | inl same ↦
-      let gone : has_number v xs ≡ false = rw same at once.0 in
-      rw (eq-eqb x v same, without_absent v xs gone) (omega arith)
+  | inl same ↦ grind (arith, nat_tests, eq-eqb, without_absent, once.0, same)
   | inr ne ↦
       let there : has_number v xs ≡ true = sym (has_other v x xs (λ f. ne (sym f))) ∙ e in
       rw (ne_eqb x v ne) (omega (arith, length-without v xs once.1 there))
@@ -75,8 +73,7 @@ count_by-all p (x ∷ xs) all = rw (count_by-cons p x xs, all x (has_first x xs)
 
 -- two lists that have the same numbers, each once, are equally long
 pub same_length : (xs ys : List ℕ) → IsOnce xs → IsOnce ys → ((u : ℕ) → has_number u xs ≡ has_number u ys) → length xs ≡ length ys
-same_length xs ys once_x once_y same =
-    sym (count_by-members xs ys once_x once_y (λ u e. sym (same u) ∙ e)) ∙ count_by-all (members_of xs) ys (λ u e. same u ∙ e)
+same_length xs ys once_x once_y same = grind (arith, nat_tests, count_by-members, count_by-all)
 
 -- all vertices, the greatest first
 abbrev pub all_below : ℕ → List ℕ

@@ -159,10 +159,7 @@ tree_set len width i v before nodes is inside small sized played leaves = record
   sized = sized ∙ is.sized;
   room = is.room;
   played = played;
-  numbers = λ j low. elim (cases_eq j i) [
-    | inl e ↦ rw (at j, e, get_or-set_same (drop width before) i v 0 (omega (arith, length-drop width before, is.sized, is.room))) small
-    | inr ne ↦ rw (other j ne) (is.numbers j low)
-  ];
+  numbers = λ j low. grind (arith, nat_tests, cases_eq j i, at, get_or-set_same, length-drop, other, is.sized, is.room, is.numbers);
   others = λ j high below. other j (omega arith) ∙ is.others j high below;
 }
   where

@@ -4,6 +4,7 @@ use Rattle.std.specs.Prelude.{count_by}
 use Rattle.std.proofs.lemmas.Bool.{cases_eq, cases_lt, ltb-true, ltb-false, lt-ltb, eq-eqb, ne_eqb}
 use Rattle.std.proofs.lemmas.Nat.{mul-le}
 use Rattle.std.proofs.lemmas.List.{append_assoc, append-nil, drop_at, length-append, length-drop, take-append-drop, nil_from_length}
+use Rattle.std.proofs.lemmas.Bool.Decides.{nat_tests}
 use Rattle.kc_graph.specs.Numbers.{has_number}
 use Rattle.kc_graph.specs.private.Numbers.{without}
 use Rattle.kc_graph.specs.Shape.{GraphShape, Pair, EdgesFrom, IsGraph}
@@ -61,10 +62,7 @@ best_more g n i best next whole lt at edges is from = go (ltb (best.edges * (n -
         record {
           inside = is.inside;
           edges = is.edges;
-          dense = λ k h. elim (cases_eq k i) [
-            | inl e ↦ rw e (omega (arith, ap (λ m. m * (n - best.first)) edges, ge))
-            | inr ne ↦ is.dense k (omega (arith, ne))
-          ];
+          dense = λ k h. grind (arith, nat_tests, cases_eq k i, is.dense);
           strictly = is.strictly;
         }
 
@@ -151,8 +149,7 @@ walk_compared g i degrees order edges best next lt at edges_are is = record {
 }
   where
     low : (b : Bool) → (cond b next best).first ≤ i + 1
-    low true = omega (arith, at)
-    low false = omega (arith, is.from)
+    low b = grind (arith, nat_tests, is.from)
 
 -- the edges that go with a vertex are among those that are left
 pub walk_edges : (g : GraphShape) (i j : ℕ) (degrees order : List ℕ) (edges : ℕ) (best : Suffix) (v : ℕ) → IsGraph g → IsWalk g i j degrees order edges best → is_left degrees v ≡ true →
@@ -176,24 +173,16 @@ walk_taken g i j degrees after order edges best v graph is next others remaining
   leads = λ rest once same peeled.
       let whole : (order ++ v ∷ []) ++ rest ≡ order ++ (v ∷ rest) = append_assoc order (v ∷ []) rest in
       let gone : has_number v rest ≡ false = same v ∙ others v ∙ rw (eq-eqb v v refl) refl in
-      let all : (u : ℕ) → has_number u (v ∷ rest) ≡ is_left degrees u = λ u. elim (cases_eq u v) [
-        | inl e ↦ ap (λ w. has_number w (v ∷ rest)) e ∙ has_first v rest ∙ sym next.holds ∙ ap (λ w. is_left degrees w) (sym e)
-        | inr ne ↦ has_other u v rest ne ∙ same u ∙ others u ∙ rw (ne_eqb u v ne) refl
-      ] in
+      let all : (u : ℕ) → has_number u (v ∷ rest) ≡ is_left degrees u = λ u. grind (arith, nat_tests, cases_eq u v, has_first, has_other, ne_eqb, next.holds) in
       rw whole (is.leads (v ∷ rest) (gone, once) all (next_agree g (is_left degrees) (members_of (v ∷ rest)) v (λ u. sym (all u)) next, peeled));
 }
   where
     rest_same : (u : ℕ) → not (eqb v u) && has_number u is.left ≡ all_but v (is_left degrees) u
-    rest_same u = elim (cases_eq u v) [
-      | inl e ↦ rw (e, eq-eqb v v refl) refl
-      | inr ne ↦ rw (ne_eqb u v ne, ne_eqb v u (λ f. ne (sym f))) (is.listed.same u)
-    ]
+    rest_same u = grind (arith, nat_tests, eq-eqb, ne_eqb, is.listed.same)
 
 -- at the end
 pub walk_last : (g : GraphShape) (degrees order : List ℕ) (edges : ℕ) (best : Suffix) → IsWalk g g.vertices g.vertices degrees order edges best → IsPeelingList g order × IsBest g g.vertices g.vertices best order
-walk_last g degrees order edges best is =
-    let none : is.left ≡ [] = nil_from_length is.left (omega (arith, is.listed.number)) in
-    rw (append-nil order) at (is.leads [] tt (λ u. ap (λ (xs : List ℕ). has_number u xs) (sym none) ∙ is.listed.same u) tt)
+walk_last g degrees order edges best is = grind (arith, nat_tests, nil_from_length, append-nil, is.left, is.listed.number, is.leads, is.listed.same)
 
 -- the best of all suffixes is the densest one
 pub best_densest : (g : GraphShape) (order : List ℕ) (best : Suffix) → IsPeelingList g order → IsBest g g.vertices g.vertices best order → IsDensestSuffix g (drop best.first order) order
@@ -215,6 +204,4 @@ best_densest g order best peeling is = record {
     part_len = length-drop best.first order ∙ ap (λ m. m - best.first) (peeling_length g order peeling)
 
     place : (other : List ℕ) (from : IsSuffix other order) → (edges_within g (members_of (drop (length from.front) order)) ≡ edges_within g (members_of other)) × (length other ≡ g.vertices - length from.front) × (length from.front < g.vertices)
-    place other from =
-        let sized : length from.front + length other ≡ g.vertices = sym (length-append from.front other) ∙ ap length (sym from.is) ∙ peeling_length g order peeling in
-        (ap (λ (xs : List ℕ). edges_within g (members_of xs)) (ap (λ (xs : List ℕ). drop (length from.front) xs) from.is ∙ drop_at from.front other (length from.front) refl), omega (arith, sized), omega (arith, sized, from.some))
+    place other from = grind (arith, nat_tests, length-append, peeling_length, drop_at, from.front, from.is, from.some)
