@@ -1,5 +1,5 @@
 -- Lemmas on counts of vertices and of edges that pass a test.
-use Rattle.std.proofs.Common.{ℕ, suc, zero, ◌+◌, ◌≤◌, ◌<◌, ◌≡◌, ◌≢◌, ◌⊎◌, inl, inr, Bool, true, false, cond, List, [], ◌∷◌, refl, ap, sym, arith, subst}
+use Rattle.std.proofs.Common.{ℕ, suc, zero, ◌+◌, ◌≤◌, ◌<◌, ◌≡◌, ◌≢◌, ◌⊎◌, inl, inr, Bool, true, false, cond, List, [], ◌∷◌, refl, sym, arith, subst}
 use Rattle.std.specs.Prelude.{count_by}
 use Rattle.std.proofs.lemmas.Bool.{cases_eq, eq-eqb, ne_eqb}
 use Rattle.std.proofs.lemmas.Bool.Decides.{nat_tests}
@@ -27,9 +27,7 @@ count_below-pos (suc n) p v h e = elim (cases_eq v n) [
 pub count_below-moved : (n : ℕ) (p q : ℕ → Bool) (v : ℕ) → ((w : ℕ) → w ≢ v → q w ≡ p w) → v < n → count_below n q + cond (p v) 1 0 ≡ count_below n p + cond (q v) 1 0
 count_below-moved zero p q v same h = absurd (omega arith)
 count_below-moved (suc n) p q v same h = elim (cases_eq v n) [
-  | inl e ↦
-      let rest : count_below n q ≡ count_below n p = count_below_agree n q p (λ w lt. same w (λ f. absurd (omega arith))) in
-      subst (λ (u : ℕ). count_below n q + cond (q n) 1 0 + cond (p u) 1 0 ≡ count_below n p + cond (p n) 1 0 + cond (q u) 1 0) (sym e) (omega arith)
+  | inl e ↦ grind (arith, nat_tests, count_below_agree, e)
   | inr ne ↦
       let later : count_below n q + cond (p v) 1 0 ≡ count_below n p + cond (q v) 1 0 = count_below-moved n p q v same (omega (arith, ne)) in
       let here : q n ≡ p n = same n (λ f. ne (sym f)) in
@@ -57,17 +55,8 @@ crossing-moved n a b v p p' q q' [] up ps qs out none = step (q v) (p' v)
 crossing-moved n a b v p p' q q' (e ∷ es) up ps qs out none =
     let later = crossing-moved n e.0 (suc e.1) v p p' q q' es up.3 ps qs out none in
     elim (cases_eq e.0 v) [
-      | inl first ↦
-          let other : e.1 ≢ v = omega (arith, up.1) in
-          rw (eq-eqb e.0 v first, count_by-cons p e.1 (neighbours_of v es), count_by-cons q e.1 (neighbours_of v es), ps e.1 other, qs e.1 other, ap p first, ap q first, ap p' first, ap q' first, out, none)
-          (at_first (q v) (p' v) (p e.1) (q e.1) (crossing p q es) (crossing p' q' es) (count_by p (neighbours_of v es)) (count_by q (neighbours_of v es)) later)
-      | inr differs ↦ elim (cases_eq e.1 v) [
-        | inl second ↦
-            rw (ne_eqb e.0 v differs, eq-eqb e.1 v second, count_by-cons p e.0 (neighbours_of v es), count_by-cons q e.0 (neighbours_of v es), ps e.0 differs, qs e.0 differs, ap p second, ap q second, ap p' second, ap q' second, out, none)
-            (at_second (q v) (p' v) (p e.0) (q e.0) (crossing p q es) (crossing p' q' es) (count_by p (neighbours_of v es)) (count_by q (neighbours_of v es)) later)
-        | inr other ↦
-            rw (ne_eqb e.0 v differs, ne_eqb e.1 v other, ps e.0 differs, qs e.0 differs, ps e.1 other, qs e.1 other) (omega (arith, later))
-      ]
+      | inl first ↦ grind (arith, nat_tests, eq-eqb, count_by-cons, at_first, up.1, first)
+      | inr differs ↦ grind (arith, nat_tests, cases_eq e.1 v, ne_eqb, eq-eqb, count_by-cons, at_second)
     ]
   where
     at_first : (s t a b : Bool) (x y c d : ℕ) → y + cond s c 0 ≡ x + cond t d 0 → both t b + both a false + y + cond s (cond a 1 0 + c) 0 ≡ both false b + both a s + x + cond t (cond b 1 0 + d) 0

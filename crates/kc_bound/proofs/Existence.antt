@@ -2,6 +2,7 @@
 use Rattle.std.proofs.Common.{ℕ, suc, zero, ◌+◌, ◌≤◌, ◌<◌, ◌≡◌, inl, inr, Bool, true, ltb, arith}
 use Rattle.std.proofs.lemmas.Bool.{cases_lt, cases_Bool, both_ways, ltb-true, lt-ltb}
 use Rattle.std.proofs.lemmas.List.Sums.{count_by-le-length}
+use Rattle.std.proofs.lemmas.Bool.Decides.{nat_tests}
 use Rattle.kc_graph.specs.Shape.{GraphShape, IsGraph, neighbours_of}
 use Rattle.kc_graph.proofs.lemmas.Neighbours.{fewer_neighbours}
 use Rattle.kc_bound.specs.Cores.{degree_within, IsCore, IsCoreness}
@@ -11,8 +12,7 @@ use Rattle.kc_bound.proofs.Removals.{rest}
 -- a vertex has fewer neighbours than there are vertices, and so a lesser coreness
 pub coreness-below : (g : GraphShape) (v c : ℕ) → IsGraph g → IsCoreness g v c → c < g.vertices
 unfolding degree_within
-coreness-below g v c graph is =
-    omega (arith, is.core.enough v is.holds, count_by-le-length is.set (neighbours_of v g.edges), fewer_neighbours g.vertices v g.edges graph (is.core.vertices v is.holds))
+coreness-below g v c graph is = grind (arith, nat_tests, count_by-le-length, fewer_neighbours, is.core.enough, is.holds, is.set, is.core.vertices)
 
 core_shallower : (g : GraphShape) (k m : ℕ) (s : ℕ → Bool) → k ≤ m → IsCore g m s → IsCore g k s
 core_shallower g k m s le core = record { vertices = core.vertices; enough = λ u e. omega (arith, core.enough u e) }

@@ -2,6 +2,7 @@
 use Rattle.std.proofs.Common.{ℕ, suc, zero, ◌+◌, ◌-◌, ◌*◌, ◌/◌, ◌≤◌, ◌<◌, ◌≡◌, List, get_or, refl, arith, one-add, add-zero}
 use Rattle.std.proofs.lemmas.Nat.{div-mul-add}
 use Rattle.std.proofs.Math.Nat.{div-mul-le_self}
+use Rattle.std.proofs.lemmas.Bool.Decides.{nat_tests}
 use Rattle.kc_graph.specs.Shape.{GraphShape}
 use Rattle.kc_levels.specs.declared.profile.Profile.{Profile}
 use Rattle.kc_levels.specs.declared.profile.Profile.TheVariants.{Two}
@@ -27,8 +28,7 @@ group_of-first p n i some = rw one-add (let e = rw add-zero at (div-mul-add i (h
 
 -- a vertex that is held on a level above 0 has the neighbours that the level below asks
 held-below : (p : Profile) (g : GraphShape) (x : List ℕ) (v l : ℕ) → IsHeld p g x v l → 0 < l → low p (group_of p g.vertices (l - 1)) ≤ at_least g x v (l - 1)
-held-below p g x v zero held some = absurd (omega arith)
-held-below p g x v (suc l) held some = let e : suc l - 1 ≡ l = omega arith in rw e held
+held-below p g x v l held some = grind (arith, nat_tests)
 
 pub lo_bounds_coreness : LoBoundsCoreness
 unfolding low grow lo
@@ -62,8 +62,7 @@ lo_bounds_coreness p g x graph meets v c is = at_level (get_or x v 0) refl
         rw (← t_is) (is.most found.0 (suc t) found.1 found.2)
 
     at_level : (l : ℕ) → get_or x v 0 ≡ l → lo p (group_of p g.vertices l) ≤ c
-    at_level zero at = omega arith
-    at_level (suc l) at = rw one-add (in_group (l / height p g.vertices) l at refl)
+    at_level l at = grind (arith, nat_tests, one-add, in_group, g.vertices)
 
 pub estimate_is_near_coreness : EstimateIsNearCoreness
 estimate_is_near_coreness = record {

@@ -1,6 +1,7 @@
 -- Both invariants hold at each point of phases, one after another, and the coreness is near.
 use Rattle.std.proofs.Common.{ℕ, suc, zero, ◌≡◌, ◌≤◌, ◌*◌, Bool, true, false, List, [], ◌∷◌, ◌++◌, take, replicate, refl, sym, arith}
 use Rattle.std.proofs.lemmas.List.{length-replicate, get_or-replicate}
+use Rattle.std.proofs.lemmas.Bool.Decides.{nat_tests}
 use Rattle.kc_graph.specs.Shape.{Pair, GraphShape, IsGraph, EdgesFrom, with_edges}
 use Rattle.kc_graph.proofs.lemmas.Changes.{vertices-with_edges, vertices-without_edges, inside_from_ascending}
 use Rattle.kc_levels.specs.declared.profile.Profile.{Profile}
@@ -21,8 +22,7 @@ use Rattle.kc_bound.specs.Laws.{BothAreNear, EachPointIsNear}
 use Rattle.kc_bound.proofs.LevelBounds.{high_bounds_coreness, lo_bounds_coreness, estimate_is_near_coreness}
 
 nearer_in : (p : Profile) (g : GraphShape) (x : List ℕ) → IsGraph g → MeetsBoth p g x → p ≡ Two → (v c : ℕ) → IsCoreness g v c → c ≤ 2 * est p (group_at p g x v)
-nearer_in Two g x graph both e v c is = estimate_is_near_coreness.nearer g x graph both v c is
-nearer_in p g x graph both e v c is = absurd cc
+nearer_in p g x graph both e v c is = grind (arith, nat_tests, estimate_is_near_coreness)
 
 pub both_are_near : BothAreNear
 both_are_near p g x graph both = record {

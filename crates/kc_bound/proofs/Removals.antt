@@ -1,6 +1,6 @@
 -- What is left of a graph where vertices with few neighbours left are taken away, one after another, and how few of the
 -- higher levels go with it.
-use Rattle.std.proofs.Common.{ℕ, suc, zero, ◌+◌, ◌*◌, ◌≤◌, ◌<◌, ◌≡◌, ◌≢◌, ◌⊎◌, inl, inr, Bool, true, false, not, ◌&&◌, cond, eqb, leb, ltb, List, get_or, refl, ap, arith, subst}
+use Rattle.std.proofs.Common.{ℕ, suc, zero, ◌+◌, ◌*◌, ◌≤◌, ◌<◌, ◌≡◌, ◌≢◌, ◌⊎◌, inl, inr, Bool, true, false, not, ◌&&◌, cond, eqb, leb, ltb, List, get_or, refl, ap, arith}
 use Rattle.std.specs.Prelude.{count_by}
 use Rattle.std.proofs.lemmas.Bool.{cases_lt, cases_eq, cases_Bool, both_ways, and_parts, le-leb, lt-leb, ltb-true, lt-ltb, eq-eqb, ne_eqb}
 use Rattle.std.proofs.lemmas.Bool.Decides.{nat_tests}
@@ -92,9 +92,7 @@ thinned_more g t a v graph thin h holds few = record {
         rw (left_before x (suc k), f, gone_after x k, e) at moved
 
     still_few : (x : List ℕ) (k : ℕ) → count_by (left a x k) (neighbours_of v g.edges) ≤ t
-    still_few x k =
-        let fewer : count_by (left a x k) (neighbours_of v g.edges) ≤ count_by a (neighbours_of v g.edges) = count_by-mono (left a x k) a (neighbours_of v g.edges) (λ w e. (and_parts (a w) (leb k (get_or x w 0)) e).0) in
-        omega arith
+    still_few x k = grind (arith, nat_tests, count_by-mono, and_parts)
 
     gone_or_left : (x : List ℕ) (k w : ℕ) → leb k (get_or x w 0) ≡ true → (gone a x k w ≡ true) ⊎ (a w ≡ true)
     gone_or_left x k w e = grind (arith, nat_tests)
@@ -136,17 +134,8 @@ thin_or_none g t a zero = inr (λ v h e. absurd (omega arith))
 thin_or_none g t a (suc n) = elim (thin_or_none g t a n) [
   | inl f ↦ inl (record { vertex = f.vertex; below = omega (arith, f.below); here = f.here; few = f.few })
   | inr none ↦ elim (cases_Bool (a n)) [
-    | inl in_set ↦ elim (cases_lt t (count_by a (neighbours_of n g.edges))) [
-      | inl lt ↦ inr (λ v h e. elim (cases_eq v n) [
-        | inl same ↦ rw same lt
-        | inr ne ↦ none v (omega (arith, ne)) e
-      ])
-      | inr ge ↦ inl (record { vertex = n; below = omega arith; here = in_set; few = ge })
-    ]
-    | inr out ↦ inr (λ v h e. elim (cases_eq v n) [
-      | inl same ↦ absurd (both_ways (a n) out (subst (λ (u : ℕ). a u ≡ true) same e))
-      | inr ne ↦ none v (omega (arith, ne)) e
-    ])
+    | inl in_set ↦ grind (arith, nat_tests, thin_or_none g t a n, cases_lt t (count_by a (neighbours_of n g.edges)))
+    | inr out ↦ inr (λ v h e. grind (arith, nat_tests, thin_or_none g t a n, cases_eq v n, both_ways))
   ]
 ]
 
