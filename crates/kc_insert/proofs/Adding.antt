@@ -81,9 +81,7 @@ module _ (g : GraphShape) (graph : IsGraph g) (f : ℕ → Bool) (v : ℕ) where
     | inl near ↦
         let less = count_less (λ u. has_number u (s ∷ ss)) (λ u. has_number u ss) s 0 (neighbours_of v g.edges) (neighbours_rise g.vertices v g.edges graph) near (grind (arith, nat_tests)) gone (λ u ne. grind (arith, nat_tests, ne)) in
         rw near (omega (arith, less))
-    | inr far ↦
-        let same = count_agree (λ u. has_number u (s ∷ ss)) (λ u. has_number u ss) (neighbours_of v g.edges) (λ u there. grind (arith, nat_tests, other far u there)) in
-        rw far (omega (arith, same))
+    | inr far ↦ grind (arith, nat_tests, count_agree, other, far)
   ]
     where
       other : has_number s (neighbours_of v g.edges) ≡ false → (u : ℕ) → has_number u (neighbours_of v g.edges) ≡ true → s ≢ u
@@ -94,12 +92,10 @@ module _ (g : GraphShape) (graph : IsGraph g) (f : ℕ → Bool) (v : ℕ) where
   count_none (x ∷ xs) = count_by-cons (λ u. has_number u []) x xs ∙ omega (arith, count_none xs)
 
   nothing : (b : Bool) (k : ℕ) → k ≡ 0 → cond b k 0 ≡ 0
-  nothing true k none = none
-  nothing false k none = refl
+  nothing b k none = grind (arith, nat_tests)
 
   sum : (b : Bool) (k m t a c : ℕ) → a ≡ cond b k 0 → c ≡ cond b m 0 → t ≡ k + m → a + c ≡ cond b t 0
-  sum true k m t a c is too both = omega (arith, is, too, both)
-  sum false k m t a c is too both = omega (arith, is, too)
+  sum b k m t a c is too both = grind (arith, nat_tests)
 
   pub times_rows : (ss : List ℕ) → AreDistinct ss → times v (flat_map (λ s. filter f (neighbours_of s g.edges)) ss) ≡ cond (f v) (count_by (λ u. has_number u ss) (neighbours_of v g.edges)) 0
   times_rows [] once = sym (nothing (f v) _ (count_none (neighbours_of v g.edges)))

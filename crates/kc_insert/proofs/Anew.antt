@@ -14,7 +14,7 @@ use Rattle.kc_insert.specs.Ranges.{Cut, IsCut, HasVertex, no_part, Part, part_at
 use Rattle.kc_insert.specs.private.Ranges.{AreKept, CanLookAnew, count_of, LookedAnew, LooksAnew}
 use Rattle.kc_insert.specs.private.Rising.{rises, seen}
 use Rattle.kc_insert.specs.private.Sweeping.{IsSame, sweeping_of}
-use Rattle.kc_insert.specs.private.Watched.{count_at, is_few}
+use Rattle.kc_insert.specs.private.Watched.{count_at}
 use Rattle.kc_insert.proofs.Buckets.{has_number-filter}
 use Rattle.kc_insert.proofs.Joined.{joined_same}
 use Rattle.kc_insert.proofs.Kept.{kept_at}
@@ -59,18 +59,10 @@ module _ (s : RisingLevels) (most : ℕ) (a b : Part) (looks : LooksAnew s most 
   anew_began v there = grind (arith, nat_tests, and_first, has_number-filter)
 
   pub anew_kept : (v : ℕ) → rises s v ≡ true → has_number v a.began ≡ true → has_number v b.began ≡ true
-  anew_kept v up there = elim looks [
-    | inl it ↦ ap (λ (q : Part). has_number v q.began) it.1 ∙ there
-    | inr new ↦ ap (λ (q : Part). has_number v q.began) new ∙ has_number-filter v (rises s) a.began ∙ and_from (has_number v a.began) (rises s v) there up
-  ]
+  anew_kept v up there = grind (arith, nat_tests, has_number-filter, and_from)
 
   pub anew_few : (v : ℕ) → rises s v ≡ true → has_number v a.began ≡ true → (count_at a.watch v ≤ a.watch.most → has_number v a.watch.doubtful ≡ true) → count_at b.watch v ≤ b.watch.most → has_number v b.watch.doubtful ≡ true
-  anew_few v up there was low = elim looks [
-    | inl it ↦ ap (λ (q : Part). has_number v q.watch.doubtful) it.1 ∙ was (omega (arith, low, anew_count v, anew_limit, it.0))
-    | inr new ↦
-        ap (λ (q : Part). has_number v q.watch.doubtful) new ∙ has_number-filter v (is_few a.watch most) (filter (rises s) a.began)
-        ∙ and_from (has_number v (filter (rises s) a.began)) (is_few a.watch most v) (has_number-filter v (rises s) a.began ∙ and_from (has_number v a.began) (rises s v) there up) (le-leb (count_at a.watch v) most (omega (arith, low, anew_count v, anew_limit)))
-  ]
+  anew_few v up there was low = grind (arith, nat_tests, anew_count, anew_limit, has_number-filter, and_from, le-leb)
 
   pub anew_inside : (v : ℕ) → has_number v b.watch.doubtful ≡ true → (has_number v a.watch.doubtful ≡ true) ⊎ (has_number v a.began ≡ true)
   anew_inside v there = grind (arith, nat_tests, and_first, has_number-filter)
@@ -122,12 +114,7 @@ module _ (p : Profile) (g : GraphShape) (s : RisingLevels) (most : ℕ) (r t : C
 
   looked_shape : (n levels : ℕ) → IsCut n levels r → IsCut n levels t
   looked_shape n levels shape = record {
-    vertex = λ v h.
-        let it = shape.vertex v h in
-        record {
-          place = omega (arith, it.place, range_same v, looked.sized);
-          held = subst (λ j. HasVertex (part_at t j).watch v) (sym (range_same v)) (anew_held s most (part_at r (range_of r.bits v)) (part_at t (range_of r.bits v)) (looks_at (range_of r.bits v) it.place) v it.held);
-        };
+    vertex = λ v h. grind (arith, nat_tests, range_same, anew_held, looks_at, shape.vertex);
     own = λ j v at held. let it = shape.own j v (within j at) (anew_back s most (part_at r j) (part_at t j) (looks_at j (within j at)) v held) in (it.0, range_same v ∙ it.1);
     queues = λ j at. anew_same s most (part_at r j) (part_at t j) (looks_at j (within j at)) (λ (q : Part). length q.queue) (λ w us vs. refl) ∙ shape.queues j (within j at);
     meetings = λ j at. anew_same s most (part_at r j) (part_at t j) (looks_at j (within j at)) (λ (q : Part). length q.meetings) (λ w us vs. refl) ∙ shape.meetings j (within j at);
@@ -140,14 +127,10 @@ module _ (p : Profile) (g : GraphShape) (s : RisingLevels) (most : ℕ) (r t : C
 
   looked_kept : AreKept s t
   looked_kept = record {
-    began = λ v up.
-        let at = (kept_at s r order.kept v up).0 in
-        ap (λ j. has_number v (part_at t j).began) (range_same v) ∙ anew_kept s most (part_at r (range_of r.bits v)) (part_at t (range_of r.bits v)) (looks_at (range_of r.bits v) at) v up (order.kept.began v up);
+    began = λ v up. grind (arith, nat_tests, kept_at, range_same, anew_kept, looks_at);
     own = λ j v at there. anew_held s most (part_at r j) (part_at t j) (looks_at j (within j at)) v (order.kept.own j v (within j at) (anew_began s most (part_at r j) (part_at t j) (looks_at j (within j at)) v there));
     risen = λ j v at there. anew_same s most (part_at r j) (part_at t j) (looks_at j (within j at)) (λ (q : Part). has_number v q.risen) (λ w us vs. refl) ∙ order.kept.risen j v (within j at) (anew_began s most (part_at r j) (part_at t j) (looks_at j (within j at)) v there);
-    few = λ v up low.
-        let at = (kept_at s r order.kept v up).0 in
-        subst (λ j. count_at (part_at t j).watch v ≤ (part_at t j).watch.most → has_number v (part_at t j).watch.doubtful ≡ true) (sym (range_same v)) (anew_few s most (part_at r (range_of r.bits v)) (part_at t (range_of r.bits v)) (looks_at (range_of r.bits v) at) v up (order.kept.began v up) (order.kept.few v up)) low;
+    few = λ v up low. grind (arith, nat_tests, kept_at, range_same, anew_few, looks_at);
     inside = λ j v at there. anew_held s most (part_at r j) (part_at t j) (looks_at j (within j at)) v (elim (anew_inside s most (part_at r j) (part_at t j) (looks_at j (within j at)) v there) [ inl was ↦ order.kept.inside j v (within j at) was | inr began ↦ order.kept.own j v (within j at) began ]);
   }
 

@@ -1,5 +1,5 @@
 -- Vertices that begin to rise, one after another, each in its range.
-use Rattle.std.proofs.Common.{ℕ, suc, ◌+◌, ◌≤◌, ◌<◌, ◌≡◌, ◌≢◌, inl, inr, Bool, true, false, cond, eqb, ◌||◌, List, [], ◌∷◌, ◌++◌, length, get_or, set, refl, ap, sym, subst, ◌∙◌, arith}
+use Rattle.std.proofs.Common.{ℕ, suc, ◌+◌, ◌≤◌, ◌<◌, ◌≡◌, ◌≢◌, inl, inr, Bool, true, cond, eqb, ◌||◌, List, [], ◌∷◌, ◌++◌, length, get_or, set, refl, ap, sym, subst, ◌∙◌, arith}
 use Rattle.std.specs.List.{flat_map}
 use Rattle.std.proofs.lemmas.Bool.{cases_Bool, cases_eq, cases_lt, eq-eqb, ne_eqb, true≢false}
 use Rattle.std.proofs.lemmas.Bool.Decides.{nat_tests}
@@ -78,10 +78,7 @@ module _ (level : ℕ) (before now : RisingLevels) (vertices : List ℕ) (bits i
     on = same ∙ s.on;
     rising = λ u. rise u ∙ ap (λ b. b || eqb u item) (s.rising u) ∙ joined (rises before u) (has_number u s.lifted) (has_number u (s.lifted ++ item ∷ [])) u item (has_number-push u item s.lifted);
     sized = length-set new (range_of bits item) p ∙ s.sized;
-    each = λ j d h. elim (cases_eq j (range_of bits item)) [
-      | inl e ↦ rw (e, get_or-set_same new (range_of bits item) p d starting_place) (made ∙ ap (λ (q : Part). record q { begun = q.begun ++ item ∷ [] }) (get_or_default new (range_of bits item) d0 d starting_place ∙ s.each (range_of bits item) d (can.place item there)) ∙ ap (λ vs. record (get_or old (range_of bits item) d) { begun = vs }) (sym (mine (range_of bits item) refl)))
-      | inr ne ↦ rw (get_or-set_other new (range_of bits item) j p d ne) (s.each j d h ∙ ap (λ vs. record (get_or old j d) { begun = vs }) (sym (other j ne)))
-    ];
+    each = λ j d h. grind (arith, nat_tests, cases_eq j (range_of bits item), get_or-set_same, starting_place, get_or_default, there, mine, get_or-set_other, other, s.each, can.place);
     counted = omega (arith, s.counted, length_set (λ (q : Part). q.begun) new (range_of bits item) p d0 starting_place, ap (λ (q : Part). length q.begun) made ∙ length-append (get_or new (range_of bits item) d0).begun (item ∷ []));
     few = omega (arith, s.few);
   }
@@ -112,10 +109,7 @@ times_dealt bits v xs o f ps each = elim (cases_lt (range_of bits v) o) [
     here q e = omega (arith, e)
 
     none : (k : ℕ) → range_of bits v ≢ k → times v (in_range bits k xs) ≡ 0
-    none k ne = times-filter v (λ u. eqb (range_of bits u) k) xs ∙ ap (λ b. cond b (times v xs) 0) (test (range_of bits v) ne)
-      where
-        test : (m : ℕ) → m ≢ k → eqb m k ≡ false
-        test m ne = grind (arith, nat_tests, ne)
+    none k ne = grind (arith, nat_tests, times-filter)
 
     nothing : (q : ℕ) (qs : List Part) → ((j : ℕ) (d : Part) → j < length qs → f (get_or qs j d) ≡ in_range bits (q + j) xs) → range_of bits v < q → times v (flat_map f qs) ≡ 0
     nothing q [] own below = refl
@@ -149,10 +143,7 @@ times_dealt bits v xs o f ps each = elim (cases_lt (range_of bits v) o) [
 pub starting_last : (level : ℕ) (before now : RisingLevels) (vertices : List ℕ) (bits i count : ℕ) (old new : List Part) → length vertices ≤ i → CanLiftOff level before vertices bits old → IsStarting level before now vertices bits i count old new → LiftedOff level before now vertices bits old new
 starting_last level before now vertices bits i count old new end can s = record {
   on = s.on;
-  levels = s.off.levels ∙ same_number_lists (all_at (seen before) s.lifted (level + 1)) (all_at (seen before) begun (level + 1)) (length-all_at (seen before) s.lifted (level + 1) ∙ sym (length-all_at (seen before) begun (level + 1))) (λ v h. elim (cases_Bool (has_number v begun)) [
-    | inl there ↦ all_at_here (seen before) s.lifted (level + 1) v (omega (arith, h, length-all_at (seen before) s.lifted (level + 1))) (sym (same v) ∙ there) ∙ sym (all_at_here (seen before) begun (level + 1) v (omega (arith, h, length-all_at (seen before) s.lifted (level + 1))) there)
-    | inr none ↦ all_at_other (seen before) s.lifted (level + 1) v (sym (same v) ∙ none) ∙ sym (all_at_other (seen before) begun (level + 1) v none)
-  ]);
+  levels = s.off.levels ∙ same_number_lists (all_at (seen before) s.lifted (level + 1)) (all_at (seen before) begun (level + 1)) (length-all_at (seen before) s.lifted (level + 1) ∙ sym (length-all_at (seen before) begun (level + 1))) (λ v h. grind (arith, nat_tests, cases_Bool (has_number v begun), begun, there, all_at_here, length-all_at, same, all_at_other, s.lifted));
   rising = λ v. s.rising v ∙ ap (λ b. rises before v || b) (sym (same v));
   sized = s.sized;
   each = λ j d h. s.each j d h ∙ ap (λ vs. record (get_or old j d) { begun = vs }) (sym (of j d h));
@@ -181,10 +172,4 @@ starting_last level before now vertices bits i count old new end can s = record 
         flat_has (λ (p : Part). p.begun) new (range_of bits v) v no_part (omega (arith, place, s.sized)) (ap (has_number v) (of (range_of bits v) no_part place) ∙ times_some v (in_range bits (range_of bits v) s.lifted) (omega (arith, in_range_times bits v s.lifted, times_there v s.lifted there)))
 
     same : (v : ℕ) → has_number v begun ≡ has_number v s.lifted
-    same v = elim (cases_Bool (has_number v begun)) [
-      | inl there ↦ there ∙ sym (forth v there)
-      | inr none ↦ elim (cases_Bool (has_number v s.lifted)) [
-        | inr gone ↦ none ∙ sym gone
-        | inl there ↦ absurd (true≢false (sym (back v there) ∙ none))
-      ]
-    ]
+    same v = grind (arith, nat_tests, there, forth, true≢false, back, s.lifted)

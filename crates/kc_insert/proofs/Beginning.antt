@@ -1,5 +1,5 @@
 -- What vertices that begin to rise are to meet, whom they tell it, and what they count.
-use Rattle.std.proofs.Common.{ℕ, suc, ◌+◌, ◌-◌, ◌*◌, ◌/◌, ◌≤◌, ◌<◌, ◌≡◌, ◌≢◌, inl, inr, Bool, true, false, cond, ltb, eqb, ◌&&◌, List, [], ◌∷◌, ◌++◌, length, get_or, set, take, drop, add-one, refl, ap, sym, ◌∙◌, arith, append_assoc}
+use Rattle.std.proofs.Common.{ℕ, suc, ◌+◌, ◌-◌, ◌*◌, ◌/◌, ◌≤◌, ◌<◌, ◌≡◌, ◌≢◌, Bool, true, false, cond, ltb, eqb, ◌&&◌, List, [], ◌∷◌, ◌++◌, length, get_or, set, take, drop, add-one, refl, ap, sym, ◌∙◌, arith, append_assoc}
 use Rattle.std.specs.Prelude.{count_by, filter}
 use Rattle.std.specs.List.{flat_map}
 use Rattle.std.proofs.Math.Seq.{drop-cons}
@@ -35,19 +35,7 @@ module _ (x : List ℕ) (l v w : ℕ) (items rest : List ℕ) (old new : List (L
   filed_met : l < get_or x w 0 → get_or x w 0 < length new → AreFiled x l v items rest old (set new (get_or x w 0) (get_or new (get_or x w 0) [] ++ (v, w) ∷ []))
   filed_met above inside = record {
     sized = length-set new (get_or x w 0) (get_or new (get_or x w 0) [] ++ (v, w) ∷ []) ∙ s.sized;
-    filed = λ k small. elim (cases_eq k (get_or x w 0)) [
-      | inl e ↦
-          ap (λ j. get_or (set new (get_or x w 0) (get_or new (get_or x w 0) [] ++ (v, w) ∷ [])) j [] ++ meetings_on x l v k rest) e
-          ∙ ap (λ (es : List Pair). es ++ meetings_on x l v k rest) (get_or-set_same new (get_or x w 0) (get_or new (get_or x w 0) [] ++ (v, w) ∷ []) [] inside)
-          ∙ append_assoc (get_or new (get_or x w 0) []) ((v, w) ∷ []) (meetings_on x l v k rest)
-          ∙ ap (λ j. get_or new j [] ++ (v, w) ∷ meetings_on x l v k rest) (sym e)
-          ∙ ap (λ (es : List Pair). get_or new k [] ++ es) (sym (on_yes k (omega (arith, above, e)) (sym e)))
-          ∙ s.filed k small
-      | inr ne ↦
-          ap (λ (es : List Pair). es ++ meetings_on x l v k rest) (get_or-set_other new (get_or x w 0) k (get_or new (get_or x w 0) [] ++ (v, w) ∷ []) [] ne)
-          ∙ ap (λ (es : List Pair). get_or new k [] ++ es) (sym (on_no k (λ e. ne (sym e))))
-          ∙ s.filed k small
-    ];
+    filed = λ k small. grind (arith, nat_tests, get_or-set_same, append_assoc, on_yes, get_or-set_other, on_no, s.filed);
   }
 
 -- the meetings with those above the level are all meetings
@@ -154,10 +142,7 @@ have_none step old = record { sized = refl; filed = λ k low. sym (append-nil (g
 pub have_both : (step : Crossing) (xs ys : List ℕ) (a b c : List (List Pair)) → HaveMeetings step xs a b → HaveMeetings step ys b c → HaveMeetings step (xs ++ ys) a c
 have_both step xs ys a b c s t = record {
   sized = t.sized ∙ s.sized;
-  filed = λ k low.
-      t.filed k low ∙ ap (λ (es : List Pair). es ++ flat_map (meetings_of step k) ys) (s.filed k low)
-      ∙ append_assoc (get_or a k []) (flat_map (meetings_of step k) xs) (flat_map (meetings_of step k) ys)
-      ∙ ap (λ (es : List Pair). get_or a k [] ++ es) (sym (flat_map-append (meetings_of step k) xs ys));
+  filed = λ k low. grind (arith, nat_tests, append_assoc, flat_map-append, t.filed, s.filed);
 }
 
 pub begun_none : (step : Crossing) (a : Watch) → HaveBegun step [] a a
@@ -167,17 +152,8 @@ begun_none step a = record { watched = watched_same a; own = λ v there. absurd 
 pub begun_more : (step : Crossing) (xs : List ℕ) (v own : ℕ) (a b c : Watch) → ((u : ℕ) → has_number u xs ≡ true → a.first ≤ u) → HasVertex a v → HaveBegun step xs a b → own ≡ count_by (count_above step) (neighbours_of v step.graph.edges) → c.counts ≡ set b.counts (v - b.first) own → StayWatched b c → HaveBegun step (xs ++ v ∷ []) a c
 begun_more step xs v own a b c listed was s fresh is t = record {
   watched = watched_on a b c s.watched t;
-  own = λ u there. elim (cases_eq u v) [
-    | inl e ↦ rw e (count_here b c v own held t.first is ∙ fresh)
-    | inr ne ↦ elim (pushed_is u v xs there) [
-      | inl e ↦ absurd (ne e)
-      | inr old ↦ count_other b c v own held t.first is u (omega (arith, listed u old, s.watched.first)) ne ∙ s.own u old
-    ]
-  ];
-  others = λ u from none. elim (cases_eq u v) [
-    | inl e ↦ absurd (true≢false (sym (rw e (has_last v xs)) ∙ none))
-    | inr ne ↦ count_other b c v own held t.first is u (omega (arith, from, s.watched.first)) ne ∙ s.others u from (before u none)
-  ];
+  own = λ u there. grind (arith, nat_tests, count_here, pushed_is, count_other, t.first, s.watched.first, s.own);
+  others = λ u from none. grind (arith, nat_tests, cases_eq u v, true≢false, has_last, count_other, held, before, t.first, s.watched.first, s.others);
 }
   where
     held : HasVertex b v

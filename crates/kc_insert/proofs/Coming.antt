@@ -5,10 +5,9 @@ use Rattle.std.proofs.lemmas.List.Sums.{count_by-le-length}
 use Rattle.std.proofs.lemmas.Bool.Decides.{nat_tests}
 use Rattle.kc_graph.specs.Numbers.{has_number}
 use Rattle.kc_insert.specs.private.Crossing.{Crossing, met_by, next_near}
-use Rattle.kc_insert.specs.private.Parts.{HasRisen, HaveMet}
+use Rattle.kc_insert.specs.private.Parts.{HasRisen}
 use Rattle.kc_insert.specs.Ranges.{HasVertex, no_part, Part, range_of, Tell, Watch}
 use Rattle.kc_insert.specs.private.Sharing.{AllRisen, AreFew, AreTold, CanMeet, CanRiseAll, HearMore, rise_told, told_all}
-use Rattle.kc_insert.specs.private.Telling.{in_range, times}
 use Rattle.kc_insert.specs.private.Watched.{count_at}
 use Rattle.kc_insert.proofs.Beginning.{held_still}
 use Rattle.kc_insert.proofs.Summing.{lists_told, tells_are}
@@ -40,9 +39,7 @@ module _ (step : Crossing) (p0 p1 p2 : List Part) (t0 t1 : List Tell) (can : Can
     held = λ v d there.
         let was = can.held v d (ap (has_number v) (sym told_is) ∙ there) in
         (omega (arith, was.0, long1, long2), subst (λ (w : Watch). HasVertex w v) (sym (watch_is (range_of step.bits v) d was.0)) (held_still _ _ v was.1 (risen (range_of step.bits v) d was.0).risen.watched));
-    small = λ v d there.
-        let was = can.held v d (ap (has_number v) (sym told_is) ∙ there) in
-        omega (arith, ap (times v) told_is, can.few v, still_small (range_of step.bits v) d v was.0, ap (λ (w : Watch). count_at w v) (watch_is (range_of step.bits v) d was.0));
+    small = λ v d there. grind (arith, nat_tests, told_is, still_small, watch_is, can.held, can.few);
     room = λ j d h.
         let at : j < length p0 = omega (arith, h, long1, long2) in
         let same : (get_or p2 j d).queue ≡ (get_or p0 j d).queue = ap (λ (p : Part). p.queue) (kept j d no_tell (omega (arith, at, long1))) ∙ ap (λ (p : Part). p.queue) (risen j d at).part in
@@ -55,18 +52,9 @@ module _ (step : Crossing) (p0 p1 p2 : List Part) (t0 t1 : List Tell) (can : Can
   pub all_risen : (most : ℕ) (p3 : List Part) → HearMore step.bits (step.level + 1) most (told_all t1) p2 p3 → AllRisen step most p0 p3
   all_risen most p3 s = record {
     sized = s.sized ∙ long2 ∙ long1;
-    each = λ j d h. record {
-      mid = get_or p1 j d;
-      risen = risen j d h;
-      met = subst (λ (q : Part). HaveMet (step.level + 1) most (in_range step.bits j (rise_told step p0)) q (get_or p3 j d)) (mid j d h) (subst (λ (xs : List ℕ). HaveMet (step.level + 1) most (in_range step.bits j xs) (get_or p2 j d) (get_or p3 j d)) told_is (s.each j d (at j h)));
-    };
+    each = λ j d h. grind (arith, nat_tests, told_is, s.each);
     lists = λ j d h. ap (λ (p : Part). length p.tell.lists) (s.each j d (at j h)).part ∙ ap (λ (p : Part). length p.tell.lists) (kept j d no_tell (omega (arith, h, long1))) ∙ can.heard j no_tell h;
   }
     where
       at : (j : ℕ) → j < length p0 → j < length p2
       at j h = omega (arith, h, long1, long2)
-
-      mid : (j : ℕ) (d : Part) → j < length p0 → get_or p2 j d ≡ record (get_or p1 j d) { tell = (get_or p3 j d).tell }
-      mid j d h =
-          kept j d no_tell (omega (arith, h, long1))
-          ∙ ap (λ (t : Tell). record (get_or p1 j d) { tell = t }) (sym (ap (λ (p : Part). p.tell) (s.each j d (at j h)).part ∙ ap (λ (p : Part). p.tell) (kept j d no_tell (omega (arith, h, long1)))))

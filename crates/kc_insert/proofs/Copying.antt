@@ -4,6 +4,7 @@ use Rattle.std.specs.List.{All}
 use Rattle.std.proofs.lemmas.Bool.{cases_eq, cases_lt}
 use Rattle.std.proofs.lemmas.List.{get_or-set_other, get_or-set_same, get_or_default, get_or_past, length-set, take_all, take_more}
 use Rattle.std.proofs.lemmas.List.Elements.{All-push}
+use Rattle.std.proofs.lemmas.Bool.Decides.{nat_tests}
 use Rattle.kc_graph.specs.Numbers.{has_number}
 use Rattle.kc_graph.proofs.lemmas.Numbers.{has_number_nowhere}
 use Rattle.kc_levels.proofs.lemmas.Writes.{copied_first, copied_then}
@@ -19,17 +20,11 @@ use Rattle.kc_insert.proofs.Watching.{count_here, count_other}
 pub in_same : (old new : Cut) (v : ℕ) → IsSameCut old new → IsIn old v → IsIn new v
 in_same old new v t it = record {
   place = omega (arith, range, t.sized, it.place);
-  held = subst (λ k. HasVertex (get_or new.parts k no_part).watch v) (sym range) (record {
-    from = omega (arith, it.held.from, first);
-    below = omega (arith, it.held.below, first, t.counts (range_of old.bits v) no_part it.place);
-  });
+  held = grind (arith, nat_tests, it.held.from, it.held.below, t.counts, it.place);
 }
   where
     range : range_of new.bits v ≡ range_of old.bits v
     range = ap (λ b. range_of b v) t.bits
-
-    first : (get_or new.parts (range_of old.bits v) no_part).watch.first ≡ (get_or old.parts (range_of old.bits v) no_part).watch.first
-    first = ap (λ (p : Part). p.watch.first) (t.each (range_of old.bits v) no_part it.place)
 
 pub copied_none : (fresh : List ℕ) (spared : ℕ → Type 0) (a : Cut) → ((v : ℕ) → spared v) → AreCopied fresh spared a a
 copied_none fresh spared a rest = record { same = same_cut a; queues = λ j d h. refl; copied = λ levels cut. copied_first fresh (counts_of a) spared rest }
@@ -60,27 +55,15 @@ module _ (fresh : List ℕ) (v own : ℕ) (old new : Cut) (it : IsIn old v) (is 
     bits = ap (λ (r : Cut). r.bits) made;
     told = ap (λ (r : Cut). r.told) made;
     sized = ap (λ (r : Cut). length r.parts) made ∙ length-set old.parts (range_of old.bits v) part;
-    each = λ j d h. elim (cases_eq j (range_of old.bits v)) [
-      | inl e ↦ rw (e, at_own d, was d) refl
-      | inr ne ↦ rw (at_other j d ne) refl
-    ];
-    counts = λ j d h. elim (cases_eq j (range_of old.bits v)) [
-      | inl e ↦ rw (e, at_own d, was d) (length-set (part_of old v).watch.counts (v - (part_of old v).watch.first) own)
-      | inr ne ↦ rw (at_other j d ne) refl
-    ];
-    queues = λ j d h. elim (cases_eq j (range_of old.bits v)) [
-      | inl e ↦ rw (e, at_own d, was d) refl
-      | inr ne ↦ rw (at_other j d ne) refl
-    ];
+    each = λ j d h. grind (arith, nat_tests, at_own, was, at_other);
+    counts = λ j d h. grind (arith, nat_tests, at_own, was, length-set, at_other);
+    queues = λ j d h. grind (arith, nat_tests, at_own, was, at_other);
   }
 
   pub copied_one_vertex : AreCopied fresh (λ u. u ≢ v) old new
   copied_one_vertex = record {
     same = same_one;
-    queues = λ j d h. elim (cases_eq j (range_of old.bits v)) [
-      | inl e ↦ rw (e, at_own d, was d) refl
-      | inr ne ↦ rw (at_other j d ne) refl
-    ];
+    queues = λ j d h. grind (arith, nat_tests, at_own, was, at_other);
     copied = λ levels cut.
         let next = cut_same (length fresh) levels old new cut same_one in record {
           sized = length_counts (length fresh) levels new next ∙ sym (length_counts (length fresh) levels old cut);
@@ -90,10 +73,7 @@ module _ (fresh : List ℕ) (v own : ℕ) (old new : Cut) (it : IsIn old v) (is 
                 let before = count_is (length fresh) levels old cut u h in
                 let after = count_is (length fresh) levels new next u h ∙ ap (λ b. count_at (get_or new.parts (range_of b u) no_part).watch u) same_one.bits in
                 let held = (cut.vertex u h).held in
-                elim (cases_eq u v) [
-                  | inl e ↦ inl (after ∙ here u e ∙ is ∙ ap (λ k. get_or fresh k 0) (sym e))
-                  | inr ne ↦ inr (after ∙ other u held ne ∙ sym before, ne)
-                ]
+                grind (arith, nat_tests, cases_eq u v, here, other)
           ];
         };
   }
@@ -102,12 +82,7 @@ module _ (fresh : List ℕ) (v own : ℕ) (old new : Cut) (it : IsIn old v) (is 
       here u e = ap (λ k. count_at (get_or new.parts (range_of old.bits k) no_part).watch k) e ∙ ap (λ (p : Part). count_at p.watch v) (at_own no_part) ∙ count_here (part_of old v).watch part.watch v own it.held refl refl
 
       other : (u : ℕ) → HasVertex (part_of old u).watch u → u ≢ v → count_at (get_or new.parts (range_of old.bits u) no_part).watch u ≡ count_of old u
-      other u held ne = elim (cases_eq (range_of old.bits u) (range_of old.bits v)) [
-        | inr off ↦ ap (λ (p : Part). count_at p.watch u) (at_other (range_of old.bits u) no_part off)
-        | inl e ↦
-            let mine : (part_of old v).watch.first ≤ u = subst (λ k. (get_or old.parts k no_part).watch.first ≤ u) e held.from in
-            ap (λ k. count_at (get_or new.parts k no_part).watch u) e ∙ ap (λ (p : Part). count_at p.watch u) (at_own no_part) ∙ count_other (part_of old v).watch part.watch v own it.held refl refl u mine ne ∙ ap (λ k. count_at (get_or old.parts k no_part).watch u) (sym e)
-      ]
+      other u held ne = grind (arith, nat_tests, at_other, at_own, count_other, held.from, it.held)
 
 -- loops over a list
 pub copied_more : {A : Type 0} (spares : ℕ → A → Type 0) (items : List A) (i : ℕ) (d item : A) (fresh : List ℕ) (a b c : Cut) → i < length items → item ≡ get_or items i d → AreCopied fresh (λ v. All (spares v) (take i items)) a b → AreCopied fresh (λ v. spares v item) b c → AreCopied fresh (λ v. All (spares v) (take (i + 1) items)) a c

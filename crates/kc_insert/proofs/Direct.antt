@@ -45,14 +45,7 @@ module _ (xs : List ℕ) (v : ℕ) (a b : Part) (was : HasVertex a.watch v) (s :
   heard_some k part enough = omega (arith, part, enough, s.less v was.from)
 
   pub heard_one : (w : Watch) (c : Part) → 1 ≤ count_at b.watch v → c ≡ record b { watch = w } → w.counts ≡ set b.watch.counts (v - b.watch.first) (count_at b.watch v - 1) → StayWatched b.watch w → HasHeardLess (xs ++ v ∷ []) a c
-  heard_one w c some is counts t = rw is (record {
-    part = ap (λ (p : Part). record p { watch = w }) s.part;
-    watched = watched_on a.watch b.watch w s.watched t;
-    less = λ u from. elim (cases_eq u v) [
-      | inl e ↦ rw e (omega (arith, count_here b.watch w v (count_at b.watch v - 1) heard_held t.first counts, some, times_own v xs, s.less v was.from))
-      | inr ne ↦ omega (arith, count_other b.watch w v (count_at b.watch v - 1) heard_held t.first counts u (omega (arith, from, s.watched.first)) ne, s.less u from, times_another v u xs ne)
-    ];
-  })
+  heard_one w c some is counts t = grind (arith, nat_tests, watched_on, count_here, heard_held, times_own, count_other, times_another, s.part, s.watched, t.first, s.less, was.from, s.watched.first)
 
 -- at the place i of the list the range of the vertex there hears
 module _ (bits i : ℕ) (xs : List ℕ) (old new : List Part) (at : i < length xs) (inside : range_of bits (get_or xs i 0) < length old) (s : HearLess bits (take i xs) old new) where
@@ -62,10 +55,7 @@ module _ (bits i : ℕ) (xs : List ℕ) (old new : List Part) (at : i < length x
   pub hear_next : (d : Part) (p : Part) → HasHeardLess (in_range bits place (take i xs) ++ get_or xs i 0 ∷ []) (get_or old place d) p → HearLess bits (take (i + 1) xs) old (set new place p)
   hear_next e0 p one = record {
     sized = length-set new place p ∙ s.sized;
-    each = λ j d h. elim (cases_eq j place) [
-      | inl e ↦ rw (e, get_or-set_same new place p d (omega (arith, inside, s.sized)), in_here bits i xs at) (rw (get_or_default old place d e0 inside) one)
-      | inr ne ↦ rw (get_or-set_other new place j p d ne, in_other bits i xs at j ne) (s.each j d h)
-    ];
+    each = λ j d h. grind (arith, nat_tests, get_or-set_same, in_here, get_or_default, get_or-set_other, in_other);
   }
 
 -- the same of one more each

@@ -27,10 +27,7 @@ pub record IsSamePart (old new : Part) : Type 0 where
 -- vertices are cut as before
 pub cut_same : (n levels : ℕ) (old new : Cut) → IsCut n levels old → IsSameCut old new → IsCut n levels new
 cut_same n levels old new s t = record {
-  vertex = λ v h. let it = s.vertex v h in record {
-    place = omega (arith, range v, t.sized, it.place);
-    held = subst (λ k. HasVertex (get_or new.parts k no_part).watch v) (sym (range v)) (held_on (range_of old.bits v) v it.place it.held);
-  };
+  vertex = λ v h. grind (arith, nat_tests, s.vertex, t.sized);
   own = λ j v h held.
       let at : j < length old.parts = omega (arith, h, t.sized) in
       let it = s.own j v at (record { from = omega (arith, held.from, first j at); below = omega (arith, held.below, first j at, t.counts j no_part at) }) in
@@ -46,9 +43,6 @@ cut_same n levels old new s t = record {
 
     first : (j : ℕ) → j < length old.parts → (get_or new.parts j no_part).watch.first ≡ (get_or old.parts j no_part).watch.first
     first j at = ap (λ (p : Part). p.watch.first) (t.each j no_part at)
-
-    held_on : (j v : ℕ) → j < length old.parts → HasVertex (get_or old.parts j no_part).watch v → HasVertex (get_or new.parts j no_part).watch v
-    held_on j v at held = record { from = omega (arith, held.from, first j at); below = omega (arith, held.below, first j at, t.counts j no_part at) }
 
 pub same_cut : (a : Cut) → IsSameCut a a
 same_cut a = record { bits = refl; told = refl; sized = refl; each = λ j d h. refl; counts = λ j d h. refl; queues = λ j d h. refl }
@@ -127,10 +121,7 @@ module _ (p : Profile) (n : ℕ) (y fresh : List ℕ) (spared : ℕ → Type 0) 
       sized = length_counts (length fresh) (top_level p n + 1) new cut ∙ sym (length_counts (length fresh) (top_level p n + 1) old can.cut);
       each = λ v. elim (cases_lt v (length fresh)) [
         | inr past ↦ inl (get_or_past (counts_of new) v 0 (omega (arith, past, length_counts (length fresh) (top_level p n + 1) new cut)) ∙ sym (get_or_past fresh v 0 past))
-        | inl h ↦ elim ((of v h).counts v (can.cut.vertex v h).held) [
-          | inl is ↦ inl (after_is v h ∙ is)
-          | inr kept ↦ inr (after_is v h ∙ kept.0 ∙ sym (before_is v h), kept.1)
-        ]
+        | inl h ↦ grind (arith, nat_tests, (of v h).counts v (can.cut.vertex v h).held, of, cut, after_is, before_is)
       ];
     }
 
@@ -168,19 +159,10 @@ module _ (p : Profile) (n : ℕ) (y fresh : List ℕ) (v : ℕ) where
     same = record {
       part = ap (λ (x : Watch). record a { watch = x; queue = queue }) (s.counts ∙ ap (λ ks. record a.watch { counts = ks }) (sym counts_are));
       sized = ap length counts_are ∙ length-set a.watch.counts (v - a.watch.first) (get_or fresh v 0);
-      buckets = elim (cases_Bool test) [
-        | inl yes_ ↦ ap length (files yes_) ∙ length-set a.queue (get_or y v 0) (get_or a.queue (get_or y v 0) [] ++ v ∷ [])
-        | inr no_ ↦ ap length (passes no_)
-      ];
+      buckets = grind (arith, nat_tests, cases_Bool test, test, files, length-set, passes);
     };
-    counts = λ u at. elim (cases_eq u v) [
-      | inl e ↦ inl (rw e (count_here a.watch w v (get_or fresh v 0) held first counts_are))
-      | inr ne ↦ inr (count_other a.watch w v (get_or fresh v 0) held first counts_are u at.from ne, ne)
-    ];
-    still = λ k u there. elim (cases_Bool test) [
-      | inl yes_ ↦ rw (files yes_) (still_there a.queue (get_or y v 0) (v ∷ []) room k u there)
-      | inr no_ ↦ rw (passes no_) there
-    ];
+    counts = λ u at. grind (arith, nat_tests, count_here, count_other, at.from);
+    still = λ k u there. grind (arith, nat_tests, still_there);
     only = λ k u there. elim (cases_Bool test) [
       | inr no_ ↦ inl (rw (passes no_) at there)
       | inl yes_ ↦ placed a.queue (get_or y v 0) k (get_or a.queue (get_or y v 0) [] ++ v ∷ []) room (λ xs. has_number u xs ≡ true → (has_number u (get_or a.queue k []) ≡ true) ⊎ (HasVertex a.watch u × (get_or y u 0 ≡ k)))
@@ -191,10 +173,7 @@ module _ (p : Profile) (n : ℕ) (y fresh : List ℕ) (v : ℕ) where
           (λ other in_it. inl in_it)
           (rw (files yes_) at there)
     ];
-    found = λ u at ne many. elim (cases_eq u v) [
-      | inr off ↦ absurd (ne (sym (count_other a.watch w v (get_or fresh v 0) held first counts_are u at.from off)))
-      | inl e ↦ rw e (rw (files (yes_is (count_at a.watch v) (high p (group_of p n (get_or y v 0))) (λ f. (rw e at ne) (f ∙ sym (count_here a.watch w v (get_or fresh v 0) held first counts_are))) (rw e at many))) (now_there a.queue (get_or y v 0) (v ∷ []) room v (has_last v [])))
-    ];
+    found = λ u at ne many. grind (arith, nat_tests, count_other, count_here, now_there, has_last, at.from);
   })
     where
       first : w.first ≡ a.watch.first
@@ -211,9 +190,6 @@ module _ (p : Profile) (n : ℕ) (y fresh : List ℕ) (v : ℕ) where
 
       passes : test ≡ false → queue ≡ a.queue
       passes e = s.waits ∙ ap (λ b. cond b (set a.queue (get_or y v 0) (get_or a.queue (get_or y v 0) [] ++ v ∷ [])) a.queue) e
-
-      yes_is : (c h : ℕ) → c ≢ get_or fresh v 0 → h < get_or fresh v 0 → not (eqb c (get_or fresh v 0)) && ltb h (get_or fresh v 0) ≡ true
-      yes_is c h ne lt = grind (arith, nat_tests, ne, lt)
 
   pub end_filed : (old new : Cut) (b : Part) (w : Watch) (queue : List (List ℕ)) (d0 : Part) → CanFile p n y fresh old → v < length fresh → new ≡ record old { parts = set old.parts (range_of old.bits v) b } → b ≡ record (get_or old.parts (range_of old.bits v) d0) { watch = w; queue = queue } → HasFollowed p n y v (get_or fresh v 0) (get_or old.parts (range_of old.bits v) d0).watch w (get_or old.parts (range_of old.bits v) d0).queue queue → HaveCounted p n y fresh (λ u. u ≢ v) old new
   end_filed old new b w queue d0 can h is made s = have_counted p n y fresh (λ u. u ≢ v) old new can (ap (λ (r : Cut). r.bits) is) (ap (λ (r : Cut). r.told) is) (ap (λ (r : Cut). length r.parts) is ∙ length-set old.parts (range_of old.bits v) b) (λ j d at.

@@ -79,12 +79,7 @@ module _ (n levels : ℕ) (r : Cut) (s : IsCut n levels r) where
       omega (arith, ap length more, length-append (counts_in i) (part_at r i).watch.counts, length_in i (omega (arith, h)), size_is i (omega (arith, h)), add-one i, ap upto (add-one i))
 
   enough : n ≤ length r.parts * wide
-  enough = elim (cases_lt (length r.parts * wide) n) [
-    | inr ge ↦ ge
-    | inl lt ↦
-        let it = (s.vertex (length r.parts * wide) lt).place in
-        absurd (omega (arith, it, to_place (length r.parts) (length r.parts * wide) (omega arith) (omega (arith, pow_pos r.bits))))
-  ]
+  enough = grind (arith, nat_tests, cases_lt (length r.parts * wide) n, to_place, pow_pos, s.vertex)
 
   pub length_counts : length (counts_of r) ≡ n
   length_counts = ap (λ (ps : List Part). length (flat_map (λ (p : Part). p.watch.counts) ps)) (sym (take_all (length r.parts) r.parts (omega arith))) ∙ length_in (length r.parts) (omega arith) ∙ omega (arith, enough)

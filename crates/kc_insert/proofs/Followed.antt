@@ -36,12 +36,7 @@ neighbours_removed v g (e ∷ es) apart =
 pub counted_copied : (g h : GraphShape) (x y old fresh new : List ℕ) (spared : ℕ → Type 0) → h.vertices ≡ g.vertices → IsCounted g x 0 old → IsCounted h y 0 fresh → IsCopied fresh old new spared → ((v : ℕ) → v < g.vertices → spared v → at_least h y v (get_or y v 0 - 0) ≡ at_least g x v (get_or x v 0 - 0)) → IsCounted h y 0 new
 counted_copied g h x y old fresh new spared same c d s kept = record {
   sized = s.sized ∙ c.sized ∙ sym same;
-  values = λ v at. elim (s.each v) [
-    | inl done ↦ done ∙ d.values v at
-    | inr left ↦
-        let within : v < g.vertices = omega (arith, at, same) in
-        left.0 ∙ c.values v within ∙ sym (kept v within left.1)
-  ];
+  values = λ v at. grind (arith, nat_tests, s.each, d.values, c.values);
 }
 
 -- after edges came in

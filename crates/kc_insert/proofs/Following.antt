@@ -1,6 +1,6 @@
 -- The vertices of a range count afresh, one after another, and wait if they count more than their groups allow.
-use Rattle.std.proofs.Common.{ℕ, ◌+◌, ◌-◌, ◌<◌, ◌≤◌, ◌≡◌, ◌≢◌, ◌⊎◌, inl, inr, Bool, true, false, cond, ltb, eqb, not, ◌&&◌, List, [], ◌∷◌, ◌++◌, length, get_or, set, refl, ap, sym, ◌∙◌, arith}
-use Rattle.std.proofs.lemmas.Bool.{cases_eq, cases_lt, cases_Bool}
+use Rattle.std.proofs.Common.{ℕ, ◌+◌, ◌-◌, ◌<◌, ◌≤◌, ◌≡◌, ◌⊎◌, inl, inr, Bool, true, false, cond, ltb, eqb, not, ◌&&◌, List, [], ◌∷◌, ◌++◌, length, get_or, set, refl, ap, sym, ◌∙◌, arith}
+use Rattle.std.proofs.lemmas.Bool.{cases_Bool}
 use Rattle.std.proofs.lemmas.Bool.Decides.{nat_tests}
 use Rattle.std.proofs.lemmas.List.{length-set}
 use Rattle.kc_graph.specs.Numbers.{has_number}
@@ -29,25 +29,13 @@ pub filed_over : (p : Profile) (n : ℕ) (y fresh : List ℕ) (i j : ℕ) (a b :
 filed_over p n y fresh i j a b first queue order same s = record {
   watch = s.watch;
   sized = s.sized;
-  counts = λ v from below. elim (cases_lt v (a.first + i)) [
-    | inl before ↦ s.counts v from before
-    | inr after ↦ is v after below
-  ];
+  counts = λ v from below. grind (arith, nat_tests, s.counts);
   later = λ v from. s.later v (omega (arith, from, order));
   buckets = s.buckets;
   still = s.still;
   only = s.only;
-  found = λ u from below ne many. elim (cases_lt u (a.first + i)) [
-    | inl before ↦ s.found u from before ne many
-    | inr after ↦ absurd (ne (sym (s.later u after) ∙ is u after below))
-  ];
+  found = λ u from below ne many. grind (arith, nat_tests, s.found, s.later);
 }
-  where
-    begin : b.first ≡ a.first
-    begin = ap (λ (w : Watch). w.first) s.watch
-
-    is : (v : ℕ) → a.first + i ≤ v → v < a.first + j → count_at b v ≡ get_or fresh v 0
-    is v after below = same (v - b.first) (omega (arith, begin, after)) (omega (arith, begin, after, below)) ∙ ap (λ k. get_or fresh k 0) (omega (arith, begin, after))
 
 -- the step of a loop at place i, where v stands
 module _ (p : Profile) (n : ℕ) (y fresh : List ℕ) (i v : ℕ) (a b c : Watch) (first mid queue : List (List ℕ)) (is : v ≡ a.first + i) (at : i < length a.counts) (room : get_or y v 0 < length first) (s : HaveFiled p n y fresh i a b first mid) (t : HasFollowed p n y v (get_or fresh v 0) b c mid queue) where
@@ -76,19 +64,10 @@ module _ (p : Profile) (n : ℕ) (y fresh : List ℕ) (i v : ℕ) (a b c : Watch
   filed_next = record {
     watch = t.counts ∙ ap (λ (w : Watch). record w { counts = set b.counts (v - b.first) (get_or fresh v 0) }) s.watch ∙ ap (λ ks. record a { counts = ks }) (sym counts_are);
     sized = ap length counts_are ∙ length-set b.counts (v - b.first) (get_or fresh v 0) ∙ s.sized;
-    counts = λ u from below. elim (cases_eq u v) [
-      | inl e ↦ rw e (count_here b c v (get_or fresh v 0) held kept counts_are)
-      | inr ne ↦ count_other b c v (get_or fresh v 0) held kept counts_are u (omega (arith, from, same)) ne ∙ s.counts u from (omega (arith, below, ne, is))
-    ];
+    counts = λ u from below. grind (arith, nat_tests, count_here, held, kept, counts_are, count_other, same, s.counts);
     later = λ u from. count_other b c v (get_or fresh v 0) held kept counts_are u (omega (arith, from, same)) (λ e. absurd (omega (arith, e, from, is))) ∙ s.later u (omega (arith, from));
-    buckets = elim (cases_Bool test) [
-      | inl yes_ ↦ ap length (waits yes_) ∙ length-set mid (get_or y v 0) (get_or mid (get_or y v 0) [] ++ v ∷ []) ∙ s.buckets
-      | inr no_ ↦ ap length (passes no_) ∙ s.buckets
-    ];
-    still = λ k u there. elim (cases_Bool test) [
-      | inl yes_ ↦ rw (waits yes_) (still_there mid (get_or y v 0) (v ∷ []) wide k u (s.still k u there))
-      | inr no_ ↦ rw (passes no_) (s.still k u there)
-    ];
+    buckets = grind (arith, nat_tests, length-set, s.buckets);
+    still = λ k u there. grind (arith, nat_tests, still_there, wide, s.still);
     only = λ k u there. elim (cases_Bool test) [
       | inr no_ ↦ s.only k u (rw (passes no_) at there)
       | inl yes_ ↦ placed mid (get_or y v 0) k (get_or mid (get_or y v 0) [] ++ v ∷ []) wide (λ xs. has_number u xs ≡ true → (has_number u (get_or first k []) ≡ true) ⊎ (HasVertex a u × (get_or y u 0 ≡ k)))
@@ -99,13 +78,7 @@ module _ (p : Profile) (n : ℕ) (y fresh : List ℕ) (i v : ℕ) (a b c : Watch
           (λ other in_it. s.only k u in_it)
           (rw (waits yes_) at there)
     ];
-    found = λ u from below ne many. elim (cases_eq u v) [
-      | inl e ↦ rw e (rw (waits (yes_is (count_at b v) (high p (group_of p n (get_or y v 0))) (λ f. (rw e at ne) (sym was ∙ f)) (rw e at many))) (now_there mid (get_or y v 0) (v ∷ []) wide v (has_last v [])))
-      | inr off ↦ elim (cases_Bool test) [
-        | inl yes_ ↦ rw (waits yes_) (still_there mid (get_or y v 0) (v ∷ []) wide (get_or y u 0) u (s.found u from (omega (arith, below, off, is)) ne many))
-        | inr no_ ↦ rw (passes no_) (s.found u from (omega (arith, below, off, is)) ne many)
-      ]
-    ];
+    found = λ u from below ne many. grind (arith, nat_tests, was, now_there, wide, has_last, still_there, s.found);
   }
     where
       waits : test ≡ true → queue ≡ set mid (get_or y v 0) (get_or mid (get_or y v 0) [] ++ v ∷ [])
@@ -113,6 +86,3 @@ module _ (p : Profile) (n : ℕ) (y fresh : List ℕ) (i v : ℕ) (a b c : Watch
 
       passes : test ≡ false → queue ≡ mid
       passes e = t.waits ∙ ap (λ b. cond b (set mid (get_or y v 0) (get_or mid (get_or y v 0) [] ++ v ∷ [])) mid) e
-
-      yes_is : (c h : ℕ) → c ≢ get_or fresh v 0 → h < get_or fresh v 0 → not (eqb c (get_or fresh v 0)) && ltb h (get_or fresh v 0) ≡ true
-      yes_is c h ne lt = grind (arith, nat_tests, ne, lt)

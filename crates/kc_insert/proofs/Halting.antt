@@ -1,5 +1,5 @@
 -- In one range after another rising vertices stop that count few.
-use Rattle.std.proofs.Common.{ℕ, ◌+◌, ◌≤◌, ◌<◌, ◌≡◌, inl, inr, true, false, not, ◌&&◌, List, [], ◌++◌, length, get_or, set, take, refl, ap, sym, subst, ◌∙◌, arith}
+use Rattle.std.proofs.Common.{ℕ, ◌+◌, ◌≤◌, ◌<◌, ◌≡◌, true, false, not, ◌&&◌, List, [], ◌++◌, length, get_or, set, take, refl, ap, sym, subst, ◌∙◌, arith}
 use Rattle.std.specs.List.{flat_map}
 use Rattle.std.proofs.lemmas.Bool.{cases_Bool, cases_eq, true≢false}
 use Rattle.std.proofs.lemmas.Bool.Decides.{nat_tests}
@@ -72,10 +72,7 @@ module _ (before now next : RisingLevels) (i count : ℕ) (old new : List Part) 
   own_small v there = omega (arith, (own d0 v there).0, can.few)
 
   apart : (v : ℕ) → has_number v (stays_in i new) ≡ true → has_number v p.stay ≡ false
-  apart v there = elim (cases_Bool (has_number v p.stay)) [
-    | inr none ↦ none
-    | inl too ↦ absurd (true≢false (sym (t.stays v too).0 ∙ s.levels.rest v ∙ grind (arith, nat_tests, there)))
-  ]
+  apart v there = grind (arith, nat_tests, true≢false, s.levels.rest)
 
   -- few enough to be counted
   pub halting_few : count + length p.stay ≤ 33554432
@@ -85,32 +82,16 @@ module _ (before now next : RisingLevels) (i count : ℕ) (old new : List Part) 
   halting_next = record {
     ranges = record {
       sized = length-set new i p ∙ s.ranges.sized;
-      each = λ j d h in_it. elim (cases_eq j i) [
-        | inl e ↦ rw (e, get_or-set_same new i p d long) (is ∙ ap (λ (q : Part). record q { watch = record q.watch { doubtful = [] }; stay = p.stay }) (was d))
-        | inr ne ↦ rw (get_or-set_other new i j p d ne) (s.ranges.each j d (omega (arith, h, ne)) in_it)
-      ];
+      each = λ j d h in_it. grind (arith, nat_tests, cases_eq j i, get_or-set_same, long, was, get_or-set_other, s.ranges.each);
       later = λ j d h. get_or-set_other new i j p d (λ e. absurd (omega (arith, e, h))) ∙ s.ranges.later j d (omega (arith, h));
     };
     levels = subst (AreStopped before next) (sym more) (stopped_on before now next (stays_in i new) p.stay s.levels (record { level = level; levels = levels; rest = t.rises_on }));
     few = record {
-      stays = λ j v d h in_it. elim (cases_eq j i) [
-        | inl e ↦ rw (e, get_or-set_same new i p d long) (λ there. (
-          and_first _ _ (sym (s.levels.rest v) ∙ (t.stays v there).0),
-          subst (λ (q : Part). count_at q.watch v ≤ q.watch.most) (was d) (t.stays v there).1,
-          (own d v there).1,
-        ))
-        | inr ne ↦ rw (get_or-set_other new i j p d ne) (s.few.stays j v d (omega (arith, h, ne)) in_it)
-      ];
-      over = λ j v d h in_it there up. elim (cases_eq j i) [
-        | inl e ↦ rw e (subst (λ (q : Part). q.watch.most < count_at q.watch v) (was d) (t.over v (ap (λ (q : Part). has_number v q.watch.doubtful) (was d) ∙ (rw e at there)) up))
-        | inr ne ↦ s.few.over j v d (omega (arith, h, ne)) in_it there (and_first _ _ (sym (t.rises_on v) ∙ up))
-      ];
+      stays = λ j v d h in_it. grind (arith, nat_tests, cases_eq j i, get_or-set_same, long, and_first, was, own, get_or-set_other, s.levels.rest, s.few.stays);
+      over = λ j v d h in_it there up. grind (arith, nat_tests, cases_eq j i, was, and_first, s.few.over);
     };
     stay = record {
-      below = λ v there. elim (cases_Bool (has_number v (stays_in i new))) [
-        | inl first ↦ s.stay.below v first
-        | inr none ↦ own_small v (or_either (has_number v (stays_in i new)) (has_number v p.stay) (sym (ap (has_number v) more ∙ has_number-append v (stays_in i new) p.stay) ∙ there) none)
-      ];
+      below = λ v there. grind (arith, nat_tests, cases_Bool (has_number v (stays_in i new)), own_small, or_either, more, has_number-append, s.stay.below);
       distinct = subst AreDistinct (sym more) (distinct_append (stays_in i new) p.stay s.stay.distinct t.distinct apart);
       counted = omega (arith, s.stay.counted, ap length more, length-append (stays_in i new) p.stay);
     };

@@ -6,6 +6,7 @@ use Rattle.std.proofs.lemmas.Grind.{flat_map-append}
 use Rattle.std.proofs.lemmas.List.{take-append-drop, append-nil, take_all}
 use Rattle.std.proofs.lemmas.List.Concat.{flat_map-cons}
 use Rattle.std.proofs.Math.Seq.{take-suc}
+use Rattle.std.proofs.lemmas.Bool.Decides.{nat_tests}
 use Rattle.kc_graph.specs.Numbers.{has_number}
 use Rattle.kc_insert.specs.private.Telling.{heard_by, times}
 use Rattle.kc_insert.specs.Ranges.{HasVertex, Part, Tell, Watch}
@@ -48,9 +49,7 @@ heard_first own told a = record { watched = watched_same a; less = λ v from. om
 
 module _ (own : ℕ) (told : List Tell) (i : ℕ) (d : Tell) (at : i < length told) (a b : Watch) (held : (v : ℕ) → has_number v (heard_by own told) ≡ true → HasVertex a v) (enough : (v : ℕ) → times v (heard_by own told) ≤ count_at a v) (s : IsHeardLess own told i a b) where
   pub less_held : (v : ℕ) → has_number v (here own told i d at) ≡ true → HasVertex b v
-  less_held v there =
-      let was = held v (heard_there own told i d at v there) in
-      record { from = omega (arith, was.from, s.watched.first); below = omega (arith, was.below, s.watched.first, s.watched.sized) }
+  less_held v there = grind (arith, nat_tests, heard_there, s.watched.first, s.watched.sized)
 
   pub less_enough : (v : ℕ) → times v (here own told i d at) ≤ count_at b v
   less_enough v = elim (cases_lt 0 (times v (here own told i d at))) [
@@ -75,9 +74,7 @@ module _ (own level most : ℕ) (told : List Tell) (i : ℕ) (d : Tell) (at : i 
   begun = ap (λ (p : Part). p.watch.first) s.part
 
   pub more_held : ((v : ℕ) → has_number v (heard_by own told) ≡ true → HasVertex a.watch v) → (v : ℕ) → has_number v (here own told i d at) ≡ true → HasVertex b.watch v
-  more_held held v there =
-      let was = held v (heard_there own told i d at v there) in
-      record { from = omega (arith, was.from, begun); below = omega (arith, was.below, begun, s.sized) }
+  more_held held v there = grind (arith, nat_tests, heard_there, begun)
 
   above : (most_of : ℕ) → ((v : ℕ) → count_at a.watch v + times v (heard_by own told) ≤ most_of) → (v : ℕ) → a.watch.first ≤ v → count_at b.watch v + times v (here own told i d at) ≤ most_of
   above most_of small v from = omega (arith, s.more v from, heard_part own told i d at v, small v)

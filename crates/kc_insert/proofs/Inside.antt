@@ -17,10 +17,7 @@ pub all_of : (P : ℕ → Type 0) (xs : List ℕ) → ((v : ℕ) → has_number 
 all_of P xs each k d h = rw (get_or_default_zero xs k d h) (each (get_or xs k 0) (has_number_at (get_or xs k 0) xs k h refl))
 
 pub inside_both : (P : ℕ → Type 0) (xs ys : List ℕ) → ((v : ℕ) → has_number v xs ≡ true → P v) → ((v : ℕ) → has_number v ys ≡ true → P v) → (v : ℕ) → has_number v (xs ++ ys) ≡ true → P v
-inside_both P xs ys first second v there = elim (cases_Bool (has_number v xs)) [
-  | inl here ↦ first v here
-  | inr none ↦ second v (or_either _ _ (sym (has_number-append v xs ys) ∙ there) none)
-]
+inside_both P xs ys first second v there = grind (arith, nat_tests, or_either, has_number-append)
 
 pub inside_rows : (P : ℕ → Type 0) (f : ℕ → List ℕ) (xs : List ℕ) → ((x v : ℕ) → has_number x xs ≡ true → has_number v (f x) ≡ true → P v) → (v : ℕ) → has_number v (flat_map f xs) ≡ true → P v
 inside_rows P f [] each v there = absurd (true≢false (sym there))

@@ -1,5 +1,5 @@
 -- The lists of all ranges, one after another: what is in them, how often, and where.
-use Rattle.std.proofs.Common.{ℕ, suc, zero, ◌+◌, ◌≤◌, ◌<◌, ◌≡◌, inl, inr, Bool, true, false, cond, eqb, ◌||◌, List, [], ◌∷◌, ◌++◌, length, get_or, set, take, ap, sym, ◌∙◌, arith, ◌≢◌, map, filter, refl}
+use Rattle.std.proofs.Common.{ℕ, suc, zero, ◌+◌, ◌≤◌, ◌<◌, ◌≡◌, inl, inr, Bool, true, false, cond, eqb, ◌||◌, List, [], ◌∷◌, ◌++◌, length, get_or, set, take, ap, sym, ◌∙◌, arith, map, filter, refl}
 use Rattle.std.specs.List.{flat_map}
 use Rattle.std.proofs.lemmas.Bool.{cases_Bool, or_right, true≢false}
 use Rattle.std.proofs.lemmas.Bool.Decides.{nat_tests}
@@ -118,23 +118,11 @@ or_swap a b c d = grind (arith, nat_tests)
 -- two lists of each range
 pub has_joined : (v : ℕ) (f h : Part → List ℕ) (ps : List Part) → has_number v (flat_map (λ p. f p ++ h p) ps) ≡ has_number v (flat_map f ps) || has_number v (flat_map h ps)
 has_joined v f h [] = refl
-has_joined v f h (p ∷ ps) =
-    has_number-append v (f p ++ h p) (flat_map (λ q. f q ++ h q) ps)
-    ∙ ap (λ b. b || has_number v (flat_map (λ q. f q ++ h q) ps)) (has_number-append v (f p) (h p))
-    ∙ ap (λ b. (has_number v (f p) || has_number v (h p)) || b) (has_joined v f h ps)
-    ∙ or_swap (has_number v (f p)) (has_number v (h p)) (has_number v (flat_map f ps)) (has_number v (flat_map h ps))
-    ∙ ap (λ b. b || (has_number v (h p) || has_number v (flat_map h ps))) (sym (has_number-append v (f p) (flat_map f ps)))
-    ∙ ap (λ b. has_number v (flat_map f (p ∷ ps)) || b) (sym (has_number-append v (h p) (flat_map h ps)))
+has_joined v f h (p ∷ ps) = grind (arith, nat_tests, has_joined v f h ps, has_number-append, or_swap)
 
 pub pairs_joined : (e : Pair) (f h : Part → List Pair) (ps : List Part) → has_edge e (flat_map (λ p. f p ++ h p) ps) ≡ has_edge e (flat_map f ps) || has_edge e (flat_map h ps)
 pairs_joined e f h [] = refl
-pairs_joined e f h (p ∷ ps) =
-    has_edge-append e (f p ++ h p) (flat_map (λ q. f q ++ h q) ps)
-    ∙ ap (λ b. b || has_edge e (flat_map (λ q. f q ++ h q) ps)) (has_edge-append e (f p) (h p))
-    ∙ ap (λ b. (has_edge e (f p) || has_edge e (h p)) || b) (pairs_joined e f h ps)
-    ∙ or_swap (has_edge e (f p)) (has_edge e (h p)) (has_edge e (flat_map f ps)) (has_edge e (flat_map h ps))
-    ∙ ap (λ b. b || (has_edge e (h p) || has_edge e (flat_map h ps))) (sym (has_edge-append e (f p) (flat_map f ps)))
-    ∙ ap (λ b. has_edge e (flat_map f (p ∷ ps)) || b) (sym (has_edge-append e (h p) (flat_map h ps)))
+pairs_joined e f h (p ∷ ps) = grind (arith, nat_tests, pairs_joined e f h ps, has_edge-append, or_swap)
 
 -- how often a number is in two lists of each range
 pub times_joined : (v : ℕ) (f h : Part → List ℕ) (ps : List Part) → times v (flat_map (λ p. f p ++ h p) ps) ≡ times v (flat_map f ps) + times v (flat_map h ps)

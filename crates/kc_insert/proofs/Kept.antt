@@ -1,7 +1,7 @@
 -- How ranges keep the vertices that rise, while the sweep goes to another level or looks anew.
-use Rattle.std.proofs.Common.{ℕ, ◌≤◌, ◌<◌, ◌≡◌, inl, inr, true, List, [], length, filter, refl, ap, sym, ◌∙◌, arith}
+use Rattle.std.proofs.Common.{ℕ, ◌≤◌, ◌<◌, ◌≡◌, true, List, [], length, filter, refl, ap, sym, ◌∙◌, arith}
 use Rattle.std.specs.Prelude.{All}
-use Rattle.std.proofs.lemmas.Bool.{and_right, cases_Bool, cases_lt, true≢false}
+use Rattle.std.proofs.lemmas.Bool.{and_right, cases_lt, true≢false}
 use Rattle.std.proofs.lemmas.List.{get_or_past}
 use Rattle.std.proofs.lemmas.Bool.Decides.{nat_tests}
 use Rattle.kc_graph.specs.Numbers.{has_number}
@@ -10,7 +10,7 @@ use Rattle.kc_levels.specs.declared.profile.Profile.{Profile}
 use Rattle.kc_levels.specs.Thresholds.{high, group_of}
 use Rattle.kc_insert.specs.declared.rising.RisingLevels.{RisingLevels}
 use Rattle.kc_insert.specs.private.LevelStep.{AreInOrder, HasLimit}
-use Rattle.kc_insert.specs.Ranges.{all_began, Cut, meets, no_part, Part, range_of, waits}
+use Rattle.kc_insert.specs.Ranges.{all_began, Cut, meets, Part, range_of, waits}
 use Rattle.kc_insert.specs.private.Ranges.{AreKept, count_of}
 use Rattle.kc_insert.specs.private.Rising.{all_at, rises, seen}
 use Rattle.kc_insert.specs.private.Sweeping.{IsFree, IsPaid, IsSame, IsSweeping, sweeping_of, together}
@@ -26,18 +26,12 @@ use Rattle.kc_insert.proofs.Together.{paid_together, sweeping_together}
 pub kept_at : (s : RisingLevels) (r : Cut) → AreKept s r → (v : ℕ) → rises s v ≡ true → (range_of r.bits v < length r.parts) × (has_number v (all_began r) ≡ true)
 kept_at s r kept v up =
     let there = kept.began v up in
-    let at : range_of r.bits v < length r.parts = elim (cases_lt (range_of r.bits v) (length r.parts)) [
-      | inl h ↦ h
-      | inr past ↦ absurd (true≢false (sym there ∙ ap (λ (q : Part). has_number v q.began) (get_or_past r.parts (range_of r.bits v) no_part past)))
-    ] in
+    let at : range_of r.bits v < length r.parts = grind (arith, nat_tests, cases_lt (range_of r.bits v) (length r.parts), true≢false, get_or_past) in
     (at, joined_of (λ (q : Part). q.began) r.parts v (range_of r.bits v) at there)
 
 -- the vertices that rise are those in the list
 pub kept_listed : (s : RisingLevels) (r : Cut) → AreKept s r → (v : ℕ) → has_number v (filter (rises s) (all_began r)) ≡ rises s v
-kept_listed s r kept v = has_number-filter v (rises s) (all_began r) ∙ elim (cases_Bool (rises s v)) [
-  | inl up ↦ and_on (has_number v (all_began r)) (rises s v) (kept_at s r kept v up).1
-  | inr none ↦ and_right (has_number v (all_began r)) (rises s v) none ∙ sym none
-]
+kept_listed s r kept v = grind (arith, nat_tests, has_number-filter, and_on, kept_at, and_right)
 
 -- the sweep goes to another level
 module _ (s t : RisingLevels) (r : Cut) (kept : AreKept s r) (same : (v : ℕ) → rises t v ≡ rises s v) where

@@ -1,7 +1,6 @@
 -- How the counts follow where a riser goes on and leaves a neighbour behind that it was to meet, and what the others are told.
-use Rattle.std.proofs.Common.{ℕ, suc, zero, subst, ◌+◌, ◌-◌, ◌≤◌, ◌<◌, ◌≡◌, ◌≢◌, inl, inr, Bool, true, false, cond, eqb, ◌&&◌, List, [], ◌∷◌, ◌++◌, length, get_or, set, map, take, drop, ap, sym, ◌∙◌, arith}
+use Rattle.std.proofs.Common.{ℕ, suc, zero, subst, ◌+◌, ◌-◌, ◌≤◌, ◌<◌, ◌≡◌, ◌≢◌, Bool, true, false, cond, eqb, ◌&&◌, List, [], ◌∷◌, ◌++◌, length, get_or, set, map, take, drop, ap, sym, ◌∙◌, arith}
 use Rattle.std.specs.Prelude.{filter}
-use Rattle.std.proofs.lemmas.Bool.{cases_eq}
 use Rattle.std.proofs.lemmas.Bool.Decides.{nat_tests}
 use Rattle.std.proofs.lemmas.List.{append-nil, map-append, take-append-drop}
 use Rattle.std.proofs.lemmas.List.Elements.{filter_more, filter-append}
@@ -17,8 +16,7 @@ use Rattle.kc_insert.proofs.Watching.{watched_on, count_here, count_other}
 pub has_edge_at : (items : List Pair) (i : ℕ) (d e : Pair) → i < length items → e ≡ get_or items i d → has_edge e items ≡ true
 has_edge_at [] i d e at item = absurd (omega arith)
 has_edge_at (f ∷ fs) zero d e at item = rw item (grind (arith, nat_tests))
-has_edge_at (f ∷ fs) (suc i) d e at item =
-    let later : has_edge e fs ≡ true = has_edge_at fs i d e (omega arith) item in grind (arith, nat_tests, later)
+has_edge_at (f ∷ fs) (suc i) d e at item = grind (arith, nat_tests, has_edge_at fs i d e (omega arith) item)
 
 -- the ends h of those pairs that pass, up to a place
 module _ (h : Pair → ℕ) (p : Pair → Bool) where
@@ -49,21 +47,14 @@ pub record IsLessBy (xs : List ℕ) (a b : Watch) : Type 0 where
 pub less_by_more : (xs : List ℕ) (v : ℕ) (a b c : Watch) → HasVertex a v → 1 ≤ count_at b v → IsLessBy xs a b → c.counts ≡ set b.counts (v - b.first) (count_at b v - 1) → StayWatched b c → IsLessBy (xs ++ v ∷ []) a c
 less_by_more xs v a b c was some s is t = record {
   watched = watched_on a b c s.watched t;
-  less = λ u from. elim (cases_eq u v) [
-    | inl e ↦ rw e (omega (arith, count_here b c v (count_at b v - 1) held t.first is, some, times_own v xs, s.less v was.from))
-    | inr ne ↦ omega (arith, count_other b c v (count_at b v - 1) held t.first is u (omega (arith, from, s.watched.first)) ne, s.less u from, times_another v u xs ne)
-  ];
+  less = λ u from. grind (arith, nat_tests, count_here, times_own, count_other, times_another, t.first, s.less, was.from, s.watched.first);
 }
-  where
-    held : HasVertex b v
-    held = record { from = omega (arith, was.from, s.watched.first); below = omega (arith, was.below, s.watched.first, s.watched.sized) }
 
 pub less_by_held : (xs : List ℕ) (v : ℕ) (a b : Watch) → HasVertex a v → IsLessBy xs a b → HasVertex b v
 less_by_held xs v a b was s = record { from = omega (arith, was.from, s.watched.first); below = omega (arith, was.below, s.watched.first, s.watched.sized) }
 
 pub less_by_some : (xs ys : List ℕ) (v : ℕ) (a b : Watch) → a.first ≤ v → IsLessBy xs a b → times v (xs ++ v ∷ []) ≤ times v ys → times v ys ≤ count_at a v → 1 ≤ count_at b v
-less_by_some xs ys v a b from s part enough =
-    omega (arith, s.less v from, times_own v xs, part, enough)
+less_by_some xs ys v a b from s part enough = grind (arith, nat_tests, times_own, s.less)
 
 -- whether the riser goes on and the other stays
 abbrev pub stays_behind : Crossing → Pair → Bool

@@ -1,5 +1,5 @@
 -- Some vertices of one level come to the next.
-use Rattle.std.proofs.Common.{ℕ, ◌+◌, ◌≤◌, ◌<◌, ◌≡◌, ◌≢◌, inl, inr, true, false, List, [], ◌∷◌, ◌++◌, length, get_or, set, refl, ap, sym, ◌∙◌, arith, subst}
+use Rattle.std.proofs.Common.{ℕ, ◌+◌, ◌≤◌, ◌<◌, ◌≡◌, ◌≢◌, inl, inr, true, false, List, [], ◌∷◌, ◌++◌, length, get_or, set, refl, ap, sym, ◌∙◌, arith}
 use Rattle.std.proofs.lemmas.Bool.{cases_Bool, true≢false}
 use Rattle.std.proofs.lemmas.Bool.Decides.{nat_tests}
 use Rattle.std.proofs.lemmas.List.{length-set, get_or-set_same, get_or-set_other}
@@ -22,9 +22,7 @@ pub all_at_here : (y vs : List ℕ) (k u : ℕ) → u < length y → has_number 
 all_at_here y [] k u inside there = absurd (true≢false (sym there))
 all_at_here y (v ∷ vs) k u inside there = elim (cases_Bool (has_number u vs)) [
   | inl later ↦ all_at_here (set y v k) vs k u (rw (length-set y v k) inside) later
-  | inr gone ↦
-      let e : u ≡ v = grind (arith, nat_tests, there, gone) in
-      all_at_other (set y v k) vs k u gone ∙ ap (λ t. get_or (set y v k) t 0) e ∙ get_or-set_same y v k 0 (subst (λ t. t < length y) e inside)
+  | inr gone ↦ grind (arith, nat_tests, all_at_other, get_or-set_same, gone)
 ]
 
 pub all_at-push : (y vs : List ℕ) (k v : ℕ) → all_at y (vs ++ v ∷ []) k ≡ set (all_at y vs k) v k
@@ -69,12 +67,7 @@ module _ (y vertices : List ℕ) (l i : ℕ) (z lifted : List ℕ) (at : i < len
   }
     where
       fresh : has_number item lifted ≡ false
-      fresh = elim (cases_Bool (has_number item lifted)) [
-        | inr none ↦ none
-        | inl there ↦
-            let above : get_or z item 0 ≡ l + 1 = ap (λ t. get_or t item 0) s.levels ∙ all_at_here y lifted (l + 1) item (inside item listed) there in
-            absurd (omega (arith, above, on))
-      ]
+      fresh = grind (arith, nat_tests, all_at_here, listed, s.levels)
 
   -- it came to the next before
   pub lifting_stays : get_or z item 0 ≢ l → IsLiftingOff y vertices l (i + 1) z lifted
@@ -82,10 +75,7 @@ module _ (y vertices : List ℕ) (l i : ℕ) (z lifted : List ℕ) (at : i < len
     levels = s.levels;
     distinct = s.distinct;
     from = s.from;
-    done = up_to lifted (λ u there. there) (elim (cases_Bool (has_number item lifted)) [
-      | inl there ↦ there
-      | inr none ↦ absurd (off (ap (λ t. get_or t item 0) s.levels ∙ all_at_other y lifted (l + 1) item none ∙ here item listed))
-    ]);
+    done = grind (arith, nat_tests, up_to, all_at_other, listed, s.levels);
   }
 
 pub lifting_same : (y vertices : List ℕ) (l i : ℕ) (z lifted : List ℕ) → length vertices ≤ i → IsLiftingOff y vertices l i z lifted → (v : ℕ) → has_number v lifted ≡ has_number v vertices

@@ -1,12 +1,12 @@
 -- Edges came in, and their ends are filed: what the sweep begins with.
-use Rattle.std.proofs.Common.{ℕ, ◌≤◌, ◌<◌, ◌≡◌, inl, inr, List, [], get_or, refl, ap, sym, ◌∙◌, arith, subst, ◌≢◌, length}
+use Rattle.std.proofs.Common.{ℕ, ◌<◌, ◌≡◌, inr, List, [], refl, ap, sym, ◌∙◌, arith, subst, ◌≢◌, length}
 use Rattle.std.proofs.lemmas.Bool.{true≢false}
 use Rattle.std.specs.List.{All}
+use Rattle.std.proofs.lemmas.Bool.Decides.{nat_tests}
 use Rattle.kc_graph.specs.Numbers.{has_number}
 use Rattle.kc_graph.specs.Shape.{GraphShape, Pair, with_edges}
 use Rattle.kc_levels.specs.declared.profile.Profile.{Profile}
-use Rattle.kc_levels.specs.Thresholds.{high, group_of}
-use Rattle.kc_levels.specs.LevelList.{at_least, MeetsUpper, IsCapped}
+use Rattle.kc_levels.specs.LevelList.{MeetsUpper, IsCapped}
 use Rattle.kc_adj.specs.LeveledGraph.{IsCounted, LeveledGraph}
 use Rattle.kc_graph.proofs.lemmas.Changes.{vertices-with_edges}
 use Rattle.kc_insert.specs.private.Filed.{IsFiling, HaveCounted}
@@ -29,18 +29,7 @@ filing_first p n y fresh before queue empty = record {
 pub filing_last : (p : Profile) (g h : GraphShape) (y z fresh before counts : List ℕ) (queue : ℕ → List ℕ) → h.vertices ≡ g.vertices → z ≡ y → IsCounted g y 0 before → IsCounted h z 0 fresh → IsCounted h z 0 counts → ((v : ℕ) → v < g.vertices → MeetsUpper p g y v) → IsFiling p h.vertices z fresh before counts queue → IsQueued p h z queue
 filing_last p g h y z fresh before counts queue same levels b f c upper s = record {
   waiting = s.waiting;
-  found = λ u hu. elim (s.found u hu) [
-    | inl at ↦ inl at
-    | inr rest ↦ inr (elim rest [
-      | inl few ↦ subst (λ k. k ≤ high p (group_of p h.vertices (get_or z u 0))) (f.values u hu ∙ ap (λ k. at_least h z u k) (omega arith)) few
-      | inr left ↦
-          let within : u < g.vertices = omega (arith, hu, same) in
-          let here : get_or before u 0 ≡ at_least g y u (get_or y u 0) = b.values u within ∙ ap (λ k. at_least g y u k) (omega arith) in
-          let there : get_or counts u 0 ≡ at_least h z u (get_or z u 0) = c.values u hu ∙ ap (λ k. at_least h z u k) (omega arith) in
-          let bound : at_least g y u (get_or y u 0) ≤ high p (group_of p h.vertices (get_or z u 0)) = rw (same, levels) (upper u within) in
-          subst (λ k. k ≤ high p (group_of p h.vertices (get_or z u 0))) (sym here ∙ sym left ∙ there) bound
-    ])
-  ];
+  found = λ u hu. grind (arith, nat_tests, s.found, f.values, b.values, c.values);
 }
 
 module _ (p : Profile) (n : ℕ) (a b : LeveledGraph) (s : RisingLevels) (r t : Cut) (es : List Pair) (y fresh : List ℕ) (ready : IsReady p a (record { levels = s.stored; ranges = r })) (is : b ≡ record a { graph = with_edges a.graph es }) (scale : n ≡ a.graph.vertices) (levels : y ≡ b.levels) (counted : IsCounted b.graph b.levels 0 fresh) (filed : HaveCounted p n y fresh (λ v. All (λ (e : Pair). (v ≢ e.0) × (v ≢ e.1)) es) r t) where

@@ -1,5 +1,5 @@
 -- New ranges, one after another.
-use Rattle.std.proofs.Common.{ℕ, ◌+◌, ◌-◌, ◌≤◌, ◌<◌, ◌≡◌, inl, inr, List, [], ◌∷◌, ◌++◌, length, get_or, take, drop, replicate, refl, ap, sym, subst, ◌∙◌, arith}
+use Rattle.std.proofs.Common.{ℕ, ◌+◌, ◌-◌, ◌≤◌, ◌<◌, ◌≡◌, List, [], ◌∷◌, ◌++◌, length, get_or, take, drop, replicate, refl, ap, sym, ◌∙◌, arith}
 use Rattle.std.proofs.lemmas.Bool.{cases_eq}
 use Rattle.std.proofs.lemmas.List.{length-append, length-replicate, length-take-le, length-drop, get_or-take, get_or-drop}
 use Rattle.std.proofs.Math.ListN.{get_or-append}
@@ -32,14 +32,8 @@ module _ (bits : ℕ) (counts : List ℕ) (levels ranges i : ℕ) (items : List 
   making_next p t one is = record {
     long = omega (arith, length-append items (p ∷ []), s.long);
     tells = omega (arith, length-append told (t ∷ []), s.tells);
-    each = λ j d h. elim (cases_eq j i) [
-      | inl e ↦ rw e (subst (IsMade bits counts levels ranges i) (sym (last items p i d s.long)) one)
-      | inr ne ↦ subst (IsMade bits counts levels ranges j) (sym (get_or-append items (p ∷ []) d j (omega (arith, h, ne, s.long)))) (s.each j d (omega (arith, h, ne)))
-    ];
-    lists = λ j d h. elim (cases_eq j i) [
-      | inl e ↦ rw e (last told t i d s.tells ∙ is)
-      | inr ne ↦ get_or-append told (t ∷ []) d j (omega (arith, h, ne, s.tells)) ∙ s.lists j d (omega (arith, h, ne))
-    ];
+    each = λ j d h. grind (arith, nat_tests, cases_eq j i, last, get_or-append, s.long, s.each);
+    lists = λ j d h. grind (arith, nat_tests, cases_eq j i, last, get_or-append, s.tells, s.lists);
   }
     where
       last : {A : Type 0} (xs : List A) (x : A) (k : ℕ) (d : A) → length xs ≡ k → get_or (xs ++ x ∷ []) k d ≡ x

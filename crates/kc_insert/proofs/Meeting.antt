@@ -1,6 +1,6 @@
 -- Vertices of a list count one more each, one after another.
-use Rattle.std.proofs.Common.{ℕ, ◌+◌, ◌-◌, ◌≤◌, ◌<◌, ◌≡◌, ◌≢◌, ◌⊎◌, inl, inr, true, false, cond, eqb, List, [], ◌∷◌, ◌++◌, length, get_or, set, take, add-one, refl, ap, sym, ◌∙◌, arith}
-use Rattle.std.proofs.lemmas.Bool.{cases_eq, cases_Bool}
+use Rattle.std.proofs.Common.{ℕ, ◌+◌, ◌-◌, ◌≤◌, ◌<◌, ◌≡◌, ◌⊎◌, inl, inr, true, false, cond, eqb, List, [], ◌∷◌, ◌++◌, length, get_or, set, take, add-one, refl, ap, sym, ◌∙◌, arith}
+use Rattle.std.proofs.lemmas.Bool.{cases_Bool}
 use Rattle.std.proofs.lemmas.Bool.Decides.{nat_tests}
 use Rattle.std.proofs.lemmas.List.{length-set}
 use Rattle.kc_graph.specs.Numbers.{has_number}
@@ -33,20 +33,8 @@ met_on level most xs ys a b c s t = record {
   more = λ v from. t.more v (omega (arith, from, first)) ∙ omega (arith, s.more v from, times-append v xs ys);
   levels = t.levels ∙ s.levels;
   still = λ k v there. t.still k v (s.still k v there);
-  only = λ k v there. elim (t.only k v there) [
-    | inr new ↦ inr (new.0, has_number-append v xs ys ∙ grind (arith, nat_tests, new.1))
-    | inl old ↦ elim (s.only k v old) [
-      | inl before ↦ inl before
-      | inr new ↦ inr (new.0, has_number-append v xs ys ∙ grind (arith, nat_tests, new.1))
-    ]
-  ];
-  noted = λ v held over. elim (t.noted v (record { from = omega (arith, held.from, first); below = omega (arith, held.below, first, s.sized) }) over) [
-    | inr there ↦ inr there
-    | inl was ↦ elim (s.noted v held was) [
-      | inl before ↦ inl before
-      | inr there ↦ inr (t.still level v there)
-    ]
-  ];
+  only = λ k v there. grind (arith, nat_tests, has_number-append, t.only, s.only);
+  noted = λ v held over. grind (arith, nat_tests, t.noted, held.from, held.below, s.sized, s.noted, t.still);
 }
   where
     first : b.watch.first ≡ a.watch.first
@@ -79,18 +67,9 @@ module _ (level most v : ℕ) (a b : Part) (held : HasVertex a.watch v) (room : 
   met_one = record {
     part = is ∙ refl_part;
     sized = count_sized a.watch b.watch v (count_at a.watch v + 1) held first counts;
-    more = λ u from. elim (cases_eq u v) [
-      | inl e ↦ rw e (omega (arith, count_here a.watch b.watch v (count_at a.watch v + 1) held first counts, one_here))
-      | inr ne ↦ omega (arith, count_other a.watch b.watch v (count_at a.watch v + 1) held first counts u from ne, none u ne)
-    ];
-    levels = elim (cases_Bool (eqb (count_at a.watch v) most)) [
-      | inl e ↦ rw (waits e) (length-set a.queue level (get_or a.queue level [] ++ v ∷ []))
-      | inr e ↦ rw (passes e) refl
-    ];
-    still = λ k u there. elim (cases_Bool (eqb (count_at a.watch v) most)) [
-      | inl e ↦ rw (waits e) (still_there a.queue level (v ∷ []) room k u there)
-      | inr e ↦ rw (passes e) there
-    ];
+    more = λ u from. grind (arith, nat_tests, count_here, first, counts, count_other);
+    levels = grind (arith, nat_tests, waits, length-set, queue, passes);
+    still = λ k u there. grind (arith, nat_tests, waits, still_there, queue, passes);
     only = λ k u there. elim (cases_Bool (eqb (count_at a.watch v) most)) [
       | inr e ↦ inl (rw (passes e) at there)
       | inl e ↦ placed a.queue level k (get_or a.queue level [] ++ v ∷ []) room (λ xs. has_number u xs ≡ true → (has_number u (get_or a.queue k []) ≡ true) ⊎ ((k ≡ level) × (has_number u (v ∷ []) ≡ true)))
@@ -101,23 +80,11 @@ module _ (level most v : ℕ) (a b : Part) (held : HasVertex a.watch v) (room : 
           (λ other in_it. inl in_it)
           (rw (waits e) at there)
     ];
-    noted = λ u its over. elim (cases_eq u v) [
-      | inr ne ↦ inl (omega (arith, over, count_other a.watch b.watch v (count_at a.watch v + 1) held first counts u its.from ne))
-      | inl same ↦ elim (cases_eq (count_at a.watch v) most) [
-        | inr off ↦ inl (rw same (omega (arith, off, rw same at over, count_here a.watch b.watch v (count_at a.watch v + 1) held first counts)))
-        | inl on ↦ inr (rw (waits (grind (arith, nat_tests, on)), same) (now_there a.queue level (v ∷ []) room v itself))
-      ]
-    ];
+    noted = λ u its over. grind (arith, nat_tests, count_other, first, counts, count_here, waits, now_there, queue, itself, its.from);
   }
     where
       refl_part : record a { watch = record a.watch { counts = set a.watch.counts (v - a.watch.first) (count_at a.watch v + 1) }; queue = cond (eqb (count_at a.watch v) most) (set a.queue level (get_or a.queue level [] ++ v ∷ [])) a.queue } ≡ record a { watch = record a.watch { counts = b.watch.counts }; queue = b.queue }
       refl_part = ap (λ (p : Part). record a { watch = record a.watch { counts = p.watch.counts }; queue = p.queue }) (sym is)
-
-      one_here : times v (v ∷ []) ≡ 1
-      one_here = grind (arith, nat_tests)
-
-      none : (u : ℕ) → u ≢ v → times u (v ∷ []) ≡ 0
-      none u ne = grind (arith, nat_tests, ne)
 
 -- the step of a loop at place i
 module _ (level most i : ℕ) (xs : List ℕ) (a b : Part) (at : i < length xs) (held : (v : ℕ) → has_number v xs ≡ true → HasVertex a.watch v) (s : HaveMet level most (take i xs) a b) where

@@ -1,5 +1,5 @@
 -- Lists of the same numbers, and of distinct ones.
-use Rattle.std.proofs.Common.{ℕ, ◌+◌, ◌≡◌, ◌≢◌, inl, inr, Bool, true, false, eqb, not, ◌&&◌, ◌||◌, List, [], ◌∷◌, ◌++◌, length, filter, refl, ap, sym, ◌∙◌, arith, suc, zero, ◌≤◌, ◌<◌, cond}
+use Rattle.std.proofs.Common.{ℕ, ◌+◌, ◌≡◌, ◌≢◌, inl, inr, Bool, true, false, eqb, not, ◌&&◌, ◌||◌, List, [], ◌∷◌, ◌++◌, length, filter, refl, ap, sym, ◌∙◌, arith, suc, zero, ◌≤◌, ◌<◌}
 use Rattle.std.proofs.lemmas.Bool.{cases_eq, true≢false}
 use Rattle.std.proofs.lemmas.Bool.Decides.{nat_tests}
 use Rattle.kc_graph.specs.Numbers.{has_number, RisesFrom}
@@ -34,10 +34,7 @@ distinct_filter test (v ∷ vs) d = grind (arith, nat_tests, distinct_filter tes
 
 pub distinct_append : (us vs : List ℕ) → AreDistinct us → AreDistinct vs → ((u : ℕ) → has_number u us ≡ true → has_number u vs ≡ false) → AreDistinct (us ++ vs)
 distinct_append [] vs d e apart = e
-distinct_append (u ∷ us) vs d e apart = (
-  has_number-append u us vs ∙ grind (arith, nat_tests, d.0, apart u (grind (arith, nat_tests))),
-  distinct_append us vs d.1 e (λ w there. apart w (grind (arith, nat_tests, there))),
-)
+distinct_append (u ∷ us) vs d e apart = grind (arith, nat_tests, distinct_append us vs d.1 e (λ w there. apart w (grind (arith, nat_tests, there))), has_number-append, d.0, d.1)
 
 -- all but one number
 abbrev but : ℕ → ℕ → Bool
@@ -63,10 +60,7 @@ weigh_length (v ∷ vs) = omega (arith, weigh_length vs)
 weigh_but : (f : ℕ → ℕ) (v : ℕ) (vs : List ℕ) → AreDistinct vs → has_number v vs ≡ true → weigh f vs ≡ f v + weigh f (filter (but v) vs)
 weigh_but f v [] once there = absurd (true≢false (sym there))
 weigh_but f v (u ∷ us) once there = elim (cases_eq u v) [
-  | inl e ↦
-      let all : filter (but v) us ≡ us = filter_all (but v) us (λ w at. grind (arith, nat_tests, other e w at)) in
-      let kept : filter (but v) (u ∷ us) ≡ us = filter_no (but v) u us (grind (arith, nat_tests, e)) ∙ all in
-      omega (arith, ap (weigh f) kept, ap f e)
+  | inl e ↦ grind (arith, nat_tests, filter_all, other, filter_no, e)
   | inr ne ↦
       let later : has_number v us ≡ true = grind (arith, nat_tests, there, ne) in
       let kept : filter (but v) (u ∷ us) ≡ u ∷ filter (but v) us = filter_yes (but v) u us (grind (arith, nat_tests, ne)) in
@@ -85,10 +79,7 @@ weigh_same f (v ∷ vs) us once too same =
     omega (arith, rest, weigh_but f v us too here)
   where
     left : (u : ℕ) → has_number u vs ≡ has_number u us && but v u
-    left u = elim (cases_eq u v) [
-      | inl e ↦ ap (λ t. has_number t vs) e ∙ once.0 ∙ grind (arith, nat_tests, e)
-      | inr ne ↦ grind (arith, nat_tests, ne, same u)
-    ]
+    left u = grind (arith, nat_tests, once.0)
 
 -- the numbers of one list are those of two others together
 pub weigh_parts : (f : ℕ → ℕ) (vs us ws : List ℕ) → AreDistinct vs → AreDistinct us → AreDistinct ws → ((v : ℕ) → has_number v us ≡ true → has_number v ws ≡ false) → ((v : ℕ) → has_number v vs ≡ has_number v us || has_number v ws) → weigh f vs ≡ weigh f us + weigh f ws
@@ -113,24 +104,12 @@ without n xs = filter (λ v. not (eqb v n)) xs
 all_kept : (n : ℕ) (xs : List ℕ) → has_number n xs ≡ false → length (without n xs) ≡ length xs
 unfolding without
 all_kept n [] none = refl
-all_kept n (x ∷ xs) none =
-    let later = all_kept n xs (grind (arith, nat_tests, none)) in
-    let other : not (eqb x n) ≡ true = grind (arith, nat_tests, none) in
-    ap (λ b. length (cond b (x ∷ filter (λ v. not (eqb v n)) xs) (filter (λ v. not (eqb v n)) xs))) other ∙ omega (arith, later)
+all_kept n (x ∷ xs) none = grind (arith, nat_tests, all_kept n xs (grind (arith, nat_tests, none)))
 
 most_kept : (n : ℕ) (xs : List ℕ) → AreDistinct xs → length xs ≤ length (without n xs) + 1
 unfolding without
 most_kept n [] once = omega arith
-most_kept n (x ∷ xs) once = elim (cases_eq x n) [
-  | inl e ↦
-      let all = all_kept n xs (ap (λ k. has_number k xs) (sym e) ∙ once.0) in
-      let same : not (eqb x n) ≡ false = grind (arith, nat_tests, e) in
-      rw same (omega (arith, all))
-  | inr ne ↦
-      let later = most_kept n xs once.1 in
-      let other : not (eqb x n) ≡ true = grind (arith, nat_tests, ne) in
-      rw other (omega (arith, later))
-]
+most_kept n (x ∷ xs) once = grind (arith, nat_tests, most_kept n xs once.1, all_kept, once.0, once.1)
 
 pub few_distinct : (n : ℕ) (xs : List ℕ) → AreDistinct xs → ((v : ℕ) → has_number v xs ≡ true → v < n) → length xs ≤ n
 unfolding without

@@ -1,5 +1,5 @@
 -- The meetings of vertices that begin, row by row.
-use Rattle.std.proofs.Common.{ℕ, suc, ◌<◌, ◌≡◌, ◌≢◌, inl, inr, true, false, ltb, eqb, ◌&&◌, List, [], ◌∷◌, ◌++◌, get_or, ap, sym, ◌∙◌, arith}
+use Rattle.std.proofs.Common.{ℕ, suc, ◌<◌, ◌≡◌, inl, inr, true, false, ltb, eqb, ◌&&◌, List, [], ◌∷◌, ◌++◌, get_or, ap, sym, ◌∙◌, arith}
 use Rattle.std.specs.List.{flat_map}
 use Rattle.std.proofs.lemmas.Bool.{cases_Bool, cases_eq, or_from, or_left, or_right, true≢false}
 use Rattle.std.proofs.lemmas.Bool.Decides.{nat_tests}
@@ -34,9 +34,7 @@ apart_on x l v k low (t ∷ ts) up = grind (arith, nat_tests, apart_on x l v k (
 -- two lists with no pair in common
 pub apart-append : (xs ys : List Pair) → AreApart xs → AreApart ys → ((e : Pair) → has_edge e xs ≡ true → has_edge e ys ≡ false) → AreApart (xs ++ ys)
 apart-append [] ys p q off = q
-apart-append (e ∷ es) ys p q off =
-    let first : has_edge e (e ∷ es) ≡ true = grind (arith, nat_tests) in
-    (has_edge-append e es ys ∙ or_from (has_edge e es) (has_edge e ys) p.0 (off e first), apart-append es ys p.1 q (λ f there. off f (grind (arith, nat_tests, there))))
+apart-append (e ∷ es) ys p q off = grind (arith, nat_tests, apart-append es ys p.1 q (λ f there. off f (grind (arith, nat_tests, there))), has_edge-append, or_from, p.0, p.1)
 
 -- the meetings of several vertices
 module _ (g : GraphShape) (x : List ℕ) (l k : ℕ) where
@@ -46,9 +44,7 @@ module _ (g : GraphShape) (x : List ℕ) (l k : ℕ) where
   pub rows_on : (vs : List ℕ) (v w : ℕ) → has_edge (v, w) (flat_map row_of vs) ≡ true → (has_number v vs ≡ true) × (has_number w (neighbours_of v g.edges) ≡ true) × (l < k) × (get_or x w 0 ≡ k)
   rows_on [] v w there = absurd (true≢false (sym there))
   rows_on (u ∷ us) v w there = elim (cases_Bool (has_edge (v, w) (row_of u))) [
-    | inl here ↦
-        let it = is_on x l u k (neighbours_of u g.edges) v w here in
-        (or_left (eqb u v) (has_number v us) (grind (arith, nat_tests, it.0)), ap (λ a. has_number w (neighbours_of a g.edges)) it.0 ∙ it.1, it.2, it.3)
+    | inl here ↦ grind (arith, nat_tests, is_on, or_left, here)
     | inr none ↦
         let it = rows_on us v w (or_either (has_edge (v, w) (row_of u)) (has_edge (v, w) (flat_map row_of us)) (sym (has_edge-append (v, w) (row_of u) (flat_map row_of us)) ∙ there) none) in
         (or_right (eqb u v) (has_number v us) it.0, it.1, it.2, it.3)

@@ -47,10 +47,7 @@ module _ {X : Type 0} (of : Part → List (List X)) where
         omega (arith, le, inside no_part, all i no_part at),
         λ empty. elim (cases_eq next level) [
           | inl e ↦ omega (arith, e, some no_part (ap (λ k. get_or (of (get_or items i no_part)) k []) (sym e) ∙ empty i no_part (omega arith)), all i no_part at)
-          | inr ne ↦ elim (cases_eq i 0) [
-            | inl zero_ ↦ absurd (omega (arith, s.first zero_, ne, le, small))
-            | inr pos_ ↦ (s.some n (omega (arith, pos_)) all).1 (λ j d b. empty j d (omega (arith, b)))
-          ]
+          | inr ne ↦ grind (arith, nat_tests, cases_eq i 0, s.first, s.some)
         ],
       );
     }

@@ -1,5 +1,5 @@
 -- What meetings tell adds up: how often a vertex is told, as a count over its neighbours.
-use Rattle.std.proofs.Common.{ℕ, suc, zero-add, ◌+◌, ◌≡◌, ◌≢◌, inl, inr, Bool, true, false, cond, eqb, ◌&&◌, List, [], ◌∷◌, map, refl, ap, sym, ◌∙◌, arith}
+use Rattle.std.proofs.Common.{ℕ, suc, zero-add, ◌+◌, ◌≡◌, ◌≢◌, Bool, true, false, cond, eqb, ◌&&◌, List, [], ◌∷◌, map, refl, ap, sym, ◌∙◌, arith}
 use Rattle.std.specs.Prelude.{count_by, filter}
 use Rattle.std.proofs.lemmas.Bool.{and_from, and_right, cases_Bool, cases_eq, eq-eqb, ne_eqb}
 use Rattle.std.proofs.lemmas.Bool.Decides.{nat_tests}
@@ -29,22 +29,11 @@ module _ (p : ℕ → Bool) (q : ℕ → Bool) (v low : ℕ) (near : List ℕ) (
   other_end e es u ne = grind (arith, nat_tests, ne)
 
   fails_end : (e : Pair) (es : List Pair) (u : ℕ) → q e.1 ≡ false → seen_of (e ∷ es) u ≡ seen_of es u
-  fails_end e es u no_ = elim (cases_eq u e.1) [
-    | inl f ↦ let none : q u ≡ false = ap q f ∙ no_ in and_right (has_edge (v, u) (e ∷ es)) (q u) none ∙ sym (and_right (has_edge (v, u) es) (q u) none)
-    | inr ne ↦ other_end e es u ne
-  ]
+  fails_end e es u no_ = grind (arith, nat_tests, and_right, other_end)
 
   pub times_firsts : (es : List Pair) → AreApart es → ((u : ℕ) → has_edge (v, u) es ≡ true → has_number u near ≡ true) → times v (firsts es) ≡ count_by (seen_of es) near
   times_firsts [] apart listed = sym (count_nothing (seen_of []) near (λ u. refl))
-  times_firsts (e ∷ es) apart listed = let later : times v (firsts es) ≡ count_by (seen_of es) near = times_firsts es apart.1 (λ u there. listed u (grind (arith, nat_tests, there))) in elim (cases_eq e.0 v) [
-    | inr ne ↦ skip ne ∙ later ∙ sym (count_agree (seen_of (e ∷ es)) (seen_of es) near (λ u there. other_pair e es u ne))
-    | inl is ↦ elim (cases_Bool (q e.1)) [
-      | inr no_ ↦ dropped no_ ∙ later ∙ sym (count_agree (seen_of (e ∷ es)) (seen_of es) near (λ u there. fails_end e es u no_))
-      | inl yes_ ↦
-          taken is yes_ ∙ ap suc later
-          ∙ more (count_less (seen_of (e ∷ es)) (seen_of es) e.1 low near up (listed e.1 (here is)) (and_from _ _ (here is) yes_) (gone is) (λ u ne. other_end e es u ne))
-    ]
-  ]
+  times_firsts (e ∷ es) apart listed = let later : times v (firsts es) ≡ count_by (seen_of es) near = times_firsts es apart.1 (λ u there. listed u (grind (arith, nat_tests, there))) in grind (arith, nat_tests, cases_eq e.0 v, skip, count_agree, other_pair, dropped, fails_end, taken, more, count_less, here, and_from, gone, other_end)
     where
       here : e.0 ≡ v → has_edge (v, e.1) (e ∷ es) ≡ true
       here is = grind (arith, nat_tests, is)
@@ -59,15 +48,10 @@ module _ (p : ℕ → Bool) (q : ℕ → Bool) (v low : ℕ) (near : List ℕ) (
       dropped no_ = ap (λ b. times v (map (λ (f : Pair). f.0) (cond b (e ∷ filter (λ (f : Pair). p f.0 && q f.1) es) (filter (λ (f : Pair). p f.0 && q f.1) es)))) (and_right (p e.0) (q e.1) no_)
 
       skip : e.0 ≢ v → times v (firsts (e ∷ es)) ≡ times v (firsts es)
-      skip ne = elim (cases_Bool (p e.0 && q e.1)) [
-        | inl yes_ ↦ ap (λ b. times v (map (λ (f : Pair). f.0) (cond b (e ∷ filter (λ (f : Pair). p f.0 && q f.1) es) (filter (λ (f : Pair). p f.0 && q f.1) es)))) yes_ ∙ ap (λ b. cond b 1 0 + times v (firsts es)) (ne_eqb e.0 v ne) ∙ zero-add (times v (firsts es))
-        | inr no_ ↦ ap (λ b. times v (map (λ (f : Pair). f.0) (cond b (e ∷ filter (λ (f : Pair). p f.0 && q f.1) es) (filter (λ (f : Pair). p f.0 && q f.1) es)))) no_
-      ]
+      skip ne = grind (arith, nat_tests, ne_eqb, zero-add)
 
       taken : e.0 ≡ v → q e.1 ≡ true → times v (firsts (e ∷ es)) ≡ suc (times v (firsts es))
-      taken is yes_ =
-          ap (λ b. times v (map (λ (f : Pair). f.0) (cond b (e ∷ filter (λ (f : Pair). p f.0 && q f.1) es) (filter (λ (f : Pair). p f.0 && q f.1) es)))) (and_from _ _ (ap p is ∙ passes) yes_)
-          ∙ ap (λ b. cond b 1 0 + times v (firsts es)) (eq-eqb e.0 v is) ∙ omega arith
+      taken is yes_ = grind (arith, nat_tests, and_from, eq-eqb)
 
 -- the pairs whose second vertex is w, where the first passes: `near` has all their first vertices
 module _ (p : ℕ → Bool) (w low : ℕ) (near : List ℕ) (up : RisesFrom low near) where
@@ -84,23 +68,11 @@ module _ (p : ℕ → Bool) (w low : ℕ) (near : List ℕ) (up : RisesFrom low 
   strange_end e es u ne = grind (arith, nat_tests, ne)
 
   lost_end : (e : Pair) (es : List Pair) (u : ℕ) → p e.0 ≡ false → seen_by (e ∷ es) u ≡ seen_by es u
-  lost_end e es u no_ = elim (cases_eq u e.0) [
-    | inl f ↦ let none : p u ≡ false = ap p f ∙ no_ in and_right (has_edge (u, w) (e ∷ es)) (p u) none ∙ sym (and_right (has_edge (u, w) es) (p u) none)
-    | inr ne ↦ strange_end e es u ne
-  ]
+  lost_end e es u no_ = grind (arith, nat_tests, and_right, strange_end)
 
   pub times_seconds : (es : List Pair) → AreApart es → ((u : ℕ) → has_edge (u, w) es ≡ true → has_number u near ≡ true) → times w (seconds es) ≡ count_by (seen_by es) near
   times_seconds [] apart listed = sym (count_nothing (seen_by []) near (λ u. refl))
-  times_seconds (e ∷ es) apart listed = let later : times w (seconds es) ≡ count_by (seen_by es) near = times_seconds es apart.1 (λ u there. listed u (grind (arith, nat_tests, there))) in elim (cases_Bool (p e.0)) [
-    | inr no_ ↦ dropped no_ ∙ later ∙ sym (count_agree (seen_by (e ∷ es)) (seen_by es) near (λ u there. lost_end e es u no_))
-    | inl yes_ ↦ kept yes_ ∙ elim (cases_eq e.1 w) [
-      | inr ne ↦ ap (λ b. cond b 1 0 + times w (seconds es)) (ne_eqb e.1 w ne) ∙ zero-add (times w (seconds es)) ∙ later ∙ sym (count_agree (seen_by (e ∷ es)) (seen_by es) near (λ u there. strange_pair e es u ne))
-      | inl is ↦
-          ap (λ b. cond b 1 0 + times w (seconds es)) (eq-eqb e.1 w is)
-          ∙ plus later
-          ∙ sym (count_less (seen_by (e ∷ es)) (seen_by es) e.0 low near up (listed e.0 (here is)) (and_from _ _ (here is) yes_) (gone is) (λ u ne. strange_end e es u ne))
-    ]
-  ]
+  times_seconds (e ∷ es) apart listed = let later : times w (seconds es) ≡ count_by (seen_by es) near = times_seconds es apart.1 (λ u there. listed u (grind (arith, nat_tests, there))) in grind (arith, nat_tests, cases_Bool (p e.0), dropped, count_agree, lost_end, kept, ne_eqb, zero-add, strange_pair, eq-eqb, plus, count_less, here, and_from, gone)
     where
       here : e.1 ≡ w → has_edge (e.0, w) (e ∷ es) ≡ true
       here is = grind (arith, nat_tests, is)

@@ -1,6 +1,7 @@
 -- All ranges tell of the vertices that stay, and hear of them.
 use Rattle.std.proofs.Common.{ℕ, ◌+◌, ◌<◌, ◌≡◌, List, [], length, get_or, ap, sym, subst, ◌∙◌, arith, ◌∷◌, refl}
 use Rattle.std.specs.List.{flat_map}
+use Rattle.std.proofs.lemmas.Bool.Decides.{nat_tests}
 use Rattle.kc_graph.specs.Numbers.{has_number}
 use Rattle.kc_adj.specs.Degrees.{degrees}
 use Rattle.kc_insert.specs.private.Crossing.{Crossing, rising_near}
@@ -8,7 +9,7 @@ use Rattle.kc_insert.specs.private.Parts.{HasParted}
 use Rattle.kc_insert.specs.Ranges.{HasVertex, no_part, Part, range_of, Tell, Watch}
 use Rattle.kc_insert.specs.private.Sharing.{AllParted, AreTold, CanLessen, CanPartAll, HearLess, told_all}
 use Rattle.kc_insert.specs.private.Telling.{times}
-use Rattle.kc_insert.specs.private.Watched.{count_at, StayWatched}
+use Rattle.kc_insert.specs.private.Watched.{StayWatched}
 use Rattle.kc_insert.proofs.Adding.{in_range_times}
 use Rattle.kc_insert.proofs.Nearest.{flat_nothing}
 use Rattle.kc_insert.proofs.Joined.{joined_rows}
@@ -41,9 +42,7 @@ module _ (step : Crossing) (p0 p1 p2 : List Part) (t0 t1 : List Tell) (can : Can
     held = λ v d there.
         let was = can.lessen.held v d (ap (has_number v) (sym told_is) ∙ there) in
         (omega (arith, was.0, long1, long2), subst (λ (w : Watch). HasVertex w v) (sym (same_watch (range_of step.bits v) d was.0)) was.1);
-    enough = λ v d there.
-        let was = can.lessen.held v d (ap (has_number v) (sym told_is) ∙ there) in
-        omega (arith, ap (times v) told_is, can.lessen.enough v d (ap (has_number v) (sym told_is) ∙ there), ap (λ (w : Watch). count_at w v) (same_watch (range_of step.bits v) d was.0));
+    enough = λ v d there. grind (arith, nat_tests, told_is, same_watch, can.lessen.held, can.lessen.enough);
   }
 
   pub all_parted : (p3 : List Part) → HearLess step.bits (told_all t1) p2 p3 → AllParted step p0 p3
@@ -56,9 +55,7 @@ module _ (step : Crossing) (p0 p1 p2 : List Part) (t0 t1 : List Tell) (can : Can
         ∙ ap (λ (t : Tell). record (get_or p0 j d) { watch = (get_or p3 j d).watch; tell = t; steps = (get_or p0 j d).steps + degrees step.graph (get_or p0 j d).stay }) (sym (ap (λ (p : Part). p.tell) ((s.each j d at).part ∙ ap (λ (p : Part). record p { watch = (get_or p3 j d).watch }) (kept j d no_tell (omega (arith, h, long1))))));
     lists = λ j d h. ap (λ (p : Part). length p.tell.lists) ((s.each j d (omega (arith, h, long1, long2))).part ∙ ap (λ (p : Part). record p { watch = (get_or p3 j d).watch }) (kept j d no_tell (omega (arith, h, long1)))) ∙ can.heard j no_tell h;
     watched = λ j d h. subst (λ (w : Watch). StayWatched w (get_or p3 j d).watch) (same_watch j d h) (s.each j d (omega (arith, h, long1, long2))).watched;
-    less = λ v d h was.
-        let now = (s.each (range_of step.bits v) d (omega (arith, h, long1, long2))).less v (omega (arith, was.from, ap (λ (w : Watch). w.first) (same_watch (range_of step.bits v) d h))) in
-        omega (arith, now, ap (λ (w : Watch). count_at w v) (same_watch (range_of step.bits v) d h), in_range_times step.bits v (told_all t1), ap (times v) told_is);
+    less = λ v d h was. grind (arith, nat_tests, same_watch, in_range_times, told_is, s.each, was.from);
   }
 
 pub parted_none : (step : Crossing) (old : List Part) (tells : List Tell) → CanPartAll step old tells → length (flat_map (λ (p : Part). p.stay) old) ≡ 0 → AllParted step old old

@@ -3,6 +3,7 @@ use Rattle.std.proofs.Common.{ℕ, ◌+◌, ◌<◌, ◌≡◌, ◌≢◌, Bool,
 use Rattle.std.specs.List.{All, flat_map}
 use Rattle.std.proofs.lemmas.Bool.{true≢false}
 use Rattle.std.proofs.lemmas.Grind.{same_number_lists}
+use Rattle.std.proofs.lemmas.Bool.Decides.{nat_tests}
 use Rattle.kc_graph.specs.Numbers.{has_number}
 use Rattle.kc_graph.specs.Shape.{GraphShape, Pair, neighbours_of, without_edges}
 use Rattle.kc_graph.proofs.lemmas.Changes.{vertices-without_edges}
@@ -16,7 +17,7 @@ use Rattle.kc_adj.proofs.lemmas.Lists.{empty_list}
 use Rattle.kc_insert.specs.declared.rising.RisingLevels.{RisingLevels}
 use Rattle.kc_insert.specs.private.Filed.{AreCopied}
 use Rattle.kc_insert.specs.private.LevelStep.{AreInOrder}
-use Rattle.kc_insert.specs.Ranges.{AreQuiet, counts_of, Cut, IsCut, no_part, Part, part_at, waits}
+use Rattle.kc_insert.specs.Ranges.{AreQuiet, counts_of, Cut, IsCut, no_part, Part, waits}
 use Rattle.kc_insert.specs.private.Ranges.{AreNew, count_of, Forgot, IsSameCut}
 use Rattle.kc_insert.specs.private.Sweeping.{AreCounted}
 use Rattle.kc_insert.specs.Working.{Working, IsReady}
@@ -70,10 +71,7 @@ quiet_same p g h r t same s q = record {
   none = (of (λ (x : Part). x.began) (λ j at. ap (λ (x : Part). x.began) (s.each j no_part at)) ∙ q.none.0, of (λ (x : Part). x.risen) (λ j at. ap (λ (x : Part). x.risen) (s.each j no_part at)) ∙ q.none.1, λ k. of (λ (x : Part). get_or x.meetings k []) (λ j at. ap (λ (x : Part). get_or x.meetings k []) (s.each j no_part at)) ∙ q.none.2 k);
   begun = λ j at. ap (λ (x : Part). x.begun) (s.each j no_part (was j at)) ∙ q.begun j (was j at);
   steps = λ j at. ap (λ (x : Part). x.steps) (s.each j no_part (was j at)) ∙ q.steps j (was j at);
-  inside = λ j v at there.
-      let held = q.inside j v (was j at) (sym (ap (λ (x : Part). has_number v x.watch.doubtful) (s.each j no_part (was j at))) ∙ there) in
-      let first : (part_at t j).watch.first ≡ (part_at r j).watch.first = ap (λ (x : Part). x.watch.first) (s.each j no_part (was j at)) in
-      record { from = omega (arith, held.from, first); below = omega (arith, held.below, first, s.counts j no_part (was j at)) };
+  inside = λ j v at there. grind (arith, nat_tests, q.inside, s.each, s.counts);
 }
   where
     was : (j : ℕ) → j < length t.parts → j < length r.parts

@@ -4,6 +4,7 @@ use Rattle.std.specs.Prelude.{count_by}
 use Rattle.std.specs.List.{flat_map}
 use Rattle.std.proofs.lemmas.Bool.{and_right, cases_Bool, le-leb, true≢false}
 use Rattle.std.proofs.lemmas.List.{get_or_default}
+use Rattle.std.proofs.lemmas.Bool.Decides.{nat_tests}
 use Rattle.kc_graph.specs.Numbers.{has_number}
 use Rattle.kc_graph.specs.Shape.{GraphShape, IsGraph, neighbours_of}
 use Rattle.kc_levels.specs.declared.profile.Profile.{Profile}
@@ -61,9 +62,7 @@ module _ (p : Profile) (g : GraphShape) (x : List ℕ) (bits most levels : ℕ) 
     watch_is j at = ap (λ (q : Part). q.watch) (stopped.each j no_part (omega (arith, at, took.sized))) ∙ ap (λ (q : Part). record q.watch { doubtful = [] }) (took.each j no_part at)
 
     stay_is : (j v : ℕ) → j < length p0 → has_number v (at_place p2 j).stay ≡ true → (rises s0 v ≡ true) × (v < g.vertices)
-    stay_is j v at there =
-        let it = stopped.stays j v no_part (omega (arith, at, took.sized)) there in
-        (it.0, (own_count p g x bits most levels s0 p0 t0 k j v at (subst (λ (q : Part). HasVertex q.watch v) (took.each j no_part at) it.2)).0)
+    stay_is j v at there = grind (arith, nat_tests, own_count, stopped.stays)
 
     stay_vertex : (v : ℕ) → has_number v (stay_in p2) ≡ true → (rises s0 v ≡ true) × (v < g.vertices)
     stay_vertex v there = let in_ = joined_in (λ (q : Part). q.stay) p2 v there in stay_is in_.0 v (omega (arith, in_.1, long)) in_.2
@@ -129,10 +128,7 @@ module _ (p : Profile) (g : GraphShape) (x : List ℕ) (bits most levels : ℕ) 
         }
 
         less : (v : ℕ) → v < g.vertices → cond (rises s1 v) (count_by (λ u. has_number u (stay_in p2)) (neighbours_of v g.edges)) 0 ≤ count_in bits p0 v
-        less v h = elim (cases_Bool (rises s1 v)) [
-          | inl on ↦ omega (arith, ap (λ b. cond b (count_by (λ u. has_number u (stay_in p2)) (neighbours_of v g.edges)) 0) on, counts_stay v h on)
-          | inr off ↦ omega (arith, ap (λ b. cond b (count_by (λ u. has_number u (stay_in p2)) (neighbours_of v g.edges)) 0) off)
-        ]
+        less v h = grind (arith, nat_tests, counts_stay)
 
     -- the vertices that begin are on the level still
     pub ask_lift : (s2 : RisingLevels) (p3 : List Part) (starting : List ℕ) → length p3 ≡ length p0 → ((j : ℕ) → j < length p0 → (at_place p3 j).begun ≡ []) → s2.level ≡ s0.level + 1 → ((risers : List ℕ) → ((v : ℕ) → rises s1 v ≡ has_number v risers) → seen s2 ≡ all_at (seen s1) risers (s0.level + 1)) → starting ≡ filter (is_over (count_in bits p1) most) (waits_in s0.level p0) → CanLiftOff s0.level s2 starting bits p3

@@ -2,6 +2,7 @@
 use Rattle.std.proofs.Common.{ℕ, ◌+◌, ◌<◌, ◌≡◌, ◌≢◌, inl, inr, Bool, true, false, cond, leb, eqb, ◌&&◌, List, [], length, get_or, ap, sym, ◌∙◌, arith}
 use Rattle.std.specs.Prelude.{count_by}
 use Rattle.std.proofs.lemmas.Bool.{and_from, and_right, cases_Bool, cases_eq, cases_lt, eq-eqb, le-leb, lt-leb, ne_eqb, or_from, or_left, true≢false}
+use Rattle.std.proofs.lemmas.Bool.Decides.{nat_tests}
 use Rattle.kc_graph.specs.Numbers.{has_number}
 use Rattle.kc_graph.specs.Shape.{GraphShape, IsGraph, neighbours_of, has_edge}
 use Rattle.kc_graph.proofs.lemmas.Neighbours.{neighbours_both}
@@ -55,10 +56,7 @@ module _ (p : Profile) (g : GraphShape) (x : List ℕ) (r : Passage) (k : AreKee
 
     pub begun_home : has_number v (place_of r.bits r.parts.lifted v).begun ≡ has_number v (begun_in r.parts.lifted)
     begun_home = elim (cases_Bool (has_number v (begun_in r.parts.lifted))) [
-      | inl there ↦
-          let in_ = joined_in (λ (q : Part). q.begun) r.parts.lifted v there in
-          let own = h.lifted.own in_.0 v no_part (omega (arith, in_.1, h.lifted.sized)) in_.2 in
-          ap (λ j. has_number v (at_place r.parts.lifted j).begun) own ∙ in_.2 ∙ sym there
+      | inl there ↦ grind (arith, nat_tests, joined_in, at_place, h.lifted.own, h.lifted.sized, there)
       | inr none ↦ elim (cases_Bool (has_number v (place_of r.bits r.parts.lifted v).begun)) [
         | inr gone ↦ gone ∙ sym none
         | inl here ↦ absurd (true≢false (sym (joined_of (λ (q : Part). q.begun) r.parts.lifted v (home v) (omega (arith, inside, long_lifted g r h)) here) ∙ none))
@@ -76,10 +74,7 @@ module _ (p : Profile) (g : GraphShape) (x : List ℕ) (r : Passage) (k : AreKee
 
   -- the vertices that stay are on the level, where they came to in the sweep
   pub stay_came : (u : ℕ) → has_number u (stay_in r.parts.stopped) ≡ true → (old_at u ≡ r.levels.old.level) × (get_or x u 0 < r.levels.old.level) × (rises r.levels.old u ≡ true)
-  stay_came u there =
-      let up = (stay_few p g x r k h u there).0 in
-      let came = k.sweeping.rise.came u (listed_old u ∙ up) in
-      (came.1, came.2, up)
+  stay_came u there = grind (arith, nat_tests, stay_few, listed_old)
 
   pub off_stay : (u : ℕ) → old_at u ≢ r.levels.old.level → has_number u (stay_in r.parts.stopped) ≡ false
   off_stay u off = elim (cases_Bool (has_number u (stay_in r.parts.stopped))) [ inr none ↦ none | inl there ↦ absurd (off (stay_came u there).0) ]
@@ -179,10 +174,7 @@ module _ (p : Profile) (g : GraphShape) (x : List ℕ) (r : Passage) (k : AreKee
         rests u off none = and_right (has_edge (u, v) (met_on p g x r k h graph small (r.levels.old.level + 1))) (rises r.levels.lifted u) (rises_lifted p g x r k h u ∙ or_from (rises r.levels.stopped u) (has_number u (begun_in r.parts.lifted)) off none)
 
         same_bits : (u : ℕ) → new_at u ≡ old_at u → come u ≡ false → has_number u (begun_in r.parts.lifted) ≡ false → bit (leb (r.levels.old.level + 1) (new_at u)) ≡ bit (leb (r.levels.old.level + 1) (old_at u)) + (bit (come u) + bit (has_number u (begun_in r.parts.lifted)))
-        same_bits u same e f = elim (cases_lt r.levels.old.level (old_at u)) [
-          | inl lt ↦ sum_first _ _ _ _ (le-leb (r.levels.old.level + 1) (new_at u) (omega (arith, same, lt))) (le-leb (r.levels.old.level + 1) (old_at u) (omega (arith, lt))) e f
-          | inr ge ↦ sum_none _ _ _ _ (lt-leb (r.levels.old.level + 1) (new_at u) (omega (arith, same, ge))) (lt-leb (r.levels.old.level + 1) (old_at u) (omega (arith, ge))) e f
-        ]
+        same_bits u same e f = grind (arith, nat_tests, sum_first, le-leb, sum_none, lt-leb)
 
     pub next_parts : count_by (λ u. leb (r.levels.old.level + 1) (new_at u)) (near_v v) ≡ count_by (λ u. leb (r.levels.old.level + 1) (old_at u)) (near_v v) + (count_by come (near_v v) + count_by (λ u. has_number u (begun_in r.parts.lifted)) (near_v v))
     next_parts = count_parts (λ u. leb (r.levels.old.level + 1) (new_at u)) (λ u. leb (r.levels.old.level + 1) (old_at u)) come (λ u. has_number u (begun_in r.parts.lifted)) (near_v v) more_at
@@ -196,10 +188,7 @@ module _ (p : Profile) (g : GraphShape) (x : List ℕ) (r : Passage) (k : AreKee
   ])
     where
       agree : (a b : ℕ) → a ≡ r.levels.old.level → b ≡ r.levels.old.level + 1 → leb j a ≡ leb j b
-      agree a b e f = elim (cases_lt r.levels.old.level j) [
-        | inl lt ↦ lt-leb j a (omega (arith, e, lt)) ∙ sym (lt-leb j b (omega (arith, f, lt, ne)))
-        | inr ge ↦ le-leb j a (omega (arith, e, ge)) ∙ sym (le-leb j b (omega (arith, f, ge)))
-      ]
+      agree a b e f = grind (arith, nat_tests, lt-leb, le-leb)
 
   pub old_count : (v j : ℕ) → v < g.vertices → old_at v ≡ j → count_in r.bits r.parts.old v ≡ count_by (λ u. leb j (old_at u)) (near_v v)
   unfolding at_least

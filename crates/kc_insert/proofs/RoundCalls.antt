@@ -5,7 +5,7 @@ use Rattle.std.specs.List.{sum_by}
 use Rattle.std.proofs.lemmas.List.{get_or_default}
 use Rattle.std.proofs.lemmas.Bool.Decides.{nat_tests}
 use Rattle.kc_graph.specs.Numbers.{has_number}
-use Rattle.kc_graph.specs.Shape.{GraphShape, IsGraph, Pair}
+use Rattle.kc_graph.specs.Shape.{GraphShape, IsGraph}
 use Rattle.kc_levels.specs.declared.profile.Profile.{Profile}
 use Rattle.kc_levels.specs.Thresholds.{high, group_of, top_level}
 use Rattle.kc_adj.specs.Degrees.{degrees}
@@ -73,11 +73,7 @@ module _ (p : Profile) (g : GraphShape) (x : List ℕ) (s0 : RisingLevels) (r0 :
         call_lift = subst (λ b. CanLiftOff s0.level s2 starting b r3.parts) (sym bits3) (ask_lift p g x r0.bits most (top_level p g.vertices + 1) s0 r0.parts r0.told keeping r1.parts r2.parts s1 took stopped s2 r3.parts starting (parted.sized ∙ long2_) (λ j at. begun_none j at) on gone movers0)
           where
             begun_none : (j : ℕ) → j < length r0.parts → (get_or r3.parts j no_part).begun ≡ []
-            begun_none j at =
-                ap (λ (q : Part). q.begun) (parted.part j no_part (omega (arith, at, long2_)))
-                ∙ ap (λ (q : Part). q.begun) (stopped.each j no_part (omega (arith, at, took.sized)))
-                ∙ ap (λ (q : Part). q.begun) (took.each j no_part at)
-                ∙ order.rest.begun j at
+            begun_none j at = grind (arith, nat_tests, long2_, parted.part, stopped.each)
 
         module _ (s3 : RisingLevels) (r4 : Cut) (lifted : LiftedOff s0.level s2 s3 starting r3.bits r3.parts r4.parts) (same4 : (r4.bits ≡ r3.bits) × (r4.told ≡ r3.told)) where
           bits4 : r4.bits ≡ r0.bits
@@ -116,16 +112,7 @@ module _ (p : Profile) (g : GraphShape) (x : List ℕ) (s0 : RisingLevels) (r0 :
           call_rise_step bits more = record { graph = graph; sized = sized_parted p g x (passage 0 true r4) keeping (has_lifted 0 true r4) ∙ vertices; small = small }
 
           pub call_meetings : (l : ℕ) → l ≤ s0.level + 1 → All (λ (q : Part). l < length q.meetings) r4.parts
-          call_meetings l within j d at =
-              let here : j < length r0.parts = omega (arith, at, long4_) in
-              omega (
-                arith,
-                within,
-                room,
-                ap (λ (q : Part). length q.meetings) (get_or_default r4.parts j d no_part at),
-                ap (λ (m : List (List Pair)). length m) (meetings_lifted g (passage 0 true r4) (has_lifted 0 true r4) j here),
-                order.shape.meetings j here,
-              )
+          call_meetings l within j d at = grind (arith, nat_tests, long4_, get_or_default, meetings_lifted, has_lifted)
 
           pub call_rise : (more : Bool) → CanRiseAll (step_at g s3 r4.bits s0.level more) r4.parts r4.told
           call_rise more = subst (λ b. CanRiseAll (step_at g s3 b s0.level more) r4.parts r4.told) (sym bits4) (ask_rise p g x (passage 0 more r4) keeping (has_lifted 0 more r4) graph small few room refl r4.told (ap (λ ts. length ts) same4.1 ∙ told3.long ∙ long2_) (λ j e at. ap (λ ts. length (get_or ts j e).lists) same4.1 ∙ told3.lists j e (omega (arith, at, long2_)) ∙ long2_))

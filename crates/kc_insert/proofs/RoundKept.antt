@@ -61,6 +61,9 @@ module _ (p : Profile) (g : GraphShape) (x : List ℕ) (r : Passage) (k : AreKee
     long60 : length p6 ≡ length r.parts.old
     long60 = long6 ∙ long_risen g r h
 
+    within : (j : ℕ) → j < length p6 → j < length r.parts.old
+    within j at = omega (arith, at, long60)
+
     taken_at : (j : ℕ) → j < length r.parts.old → at_place p6 j ≡ record (at_place r.parts.risen j) { steps = 0 }
     taken_at j at = taken j (omega (arith, at, long_risen g r h))
 
@@ -103,16 +106,10 @@ module _ (p : Profile) (g : GraphShape) (x : List ℕ) (r : Passage) (k : AreKee
     pub cut_on : IsCut g.vertices r.level_count (cut_of r.bits p6 told6)
     cut_on = record {
       vertex = λ v at. let it = vertex_in p g x r.bits r.most r.level_count r.levels.old r.parts.old r.old_told k v at in record { place = omega (arith, it.0, long60); held = held6 (range_of r.bits v) v it.0 it.1 };
-      own = λ j v at is. let within : j < length r.parts.old = omega (arith, at, long60) in k.shape.own j v within (held_back6 j v within is);
-      queues = λ j at.
-          let within : j < length r.parts.old = omega (arith, at, long60) in
-          ap (λ (q : Part). length q.queue) (taken_at j within) ∙ (met_at g r h j within).levels ∙ ap (λ (q : List (List ℕ)). length q) (queue_mid g r h j within) ∙ length-set (at_place r.parts.old j).queue r.levels.old.level [] ∙ k.shape.queues j within;
-      meetings = λ j at.
-          let within : j < length r.parts.old = omega (arith, at, long60) in
-          ap (λ (q : Part). length q.meetings) (taken_at j within) ∙ ap (λ (m : List (List Pair)). length m) (meetings_risen g r h j within) ∙ (rose_at g r h j within).risen.meetings.sized ∙ length-set (at_place r.parts.lifted j).meetings r.levels.old.level [] ∙ ap (λ (m : List (List Pair)). length m) (meetings_lifted g r h.before j within) ∙ k.shape.meetings j within;
-      tells = λ j at.
-          let within : j < length r.parts.old = omega (arith, at, long60) in
-          ap (λ (q : Part). length q.tell.lists) (taken_at j within) ∙ h.risen.lists j no_part (omega (arith, within, long_lifted g r h.before)) ∙ long_lifted g r h.before ∙ sym long60;
+      own = λ j v at is. k.shape.own j v (within j at) (held_back6 j v (within j at) is);
+      queues = λ j at. ap (λ (q : Part). length q.queue) (taken_at j (within j at)) ∙ (met_at g r h j (within j at)).levels ∙ ap (λ (q : List (List ℕ)). length q) (queue_mid g r h j (within j at)) ∙ length-set (at_place r.parts.old j).queue r.levels.old.level [] ∙ k.shape.queues j (within j at);
+      meetings = λ j at. ap (λ (q : Part). length q.meetings) (taken_at j (within j at)) ∙ ap (λ (m : List (List Pair)). length m) (meetings_risen g r h j (within j at)) ∙ (rose_at g r h j (within j at)).risen.meetings.sized ∙ length-set (at_place r.parts.lifted j).meetings r.levels.old.level [] ∙ ap (λ (m : List (List Pair)). length m) (meetings_lifted g r h.before j (within j at)) ∙ k.shape.meetings j (within j at);
+      tells = λ j at. ap (λ (q : Part). length q.tell.lists) (taken_at j (within j at)) ∙ h.risen.lists j no_part (omega (arith, (within j at), long_lifted g r h.before)) ∙ long_lifted g r h.before ∙ sym long60;
       told = (tells.0 ∙ sym long6, λ j d at. tells.1 j d (omega (arith, at, long6)) ∙ sym long6);
     }
 
@@ -185,26 +182,23 @@ module _ (p : Profile) (g : GraphShape) (x : List ℕ) (r : Passage) (k : AreKee
         | stays off none ↦ absurd (true≢false (sym up ∙ rises_lifted p g x r k h.before v ∙ or_from (rises r.levels.stopped v) (has_number v (begun_in r.parts.lifted)) off none))
       ];
       own = λ j v at there.
-          let within : j < length r.parts.old = omega (arith, at, long60) in
-          held6 j v within (elim (cases_Bool (has_number v (at_place r.parts.old j).began)) [
-            | inl was ↦ k.kept.own j v within was
-            | inr none ↦ begun_held j v within (or_either (has_number v (at_place r.parts.old j).began) (has_number v (at_place r.parts.lifted j).begun) (sym (ap (has_number v) (began6 j within) ∙ has_number-append v (at_place r.parts.old j).began (at_place r.parts.lifted j).begun) ∙ there) none)
+          held6 j v (within j at) (elim (cases_Bool (has_number v (at_place r.parts.old j).began)) [
+            | inl was ↦ k.kept.own j v (within j at) was
+            | inr none ↦ begun_held j v (within j at) (or_either (has_number v (at_place r.parts.old j).began) (has_number v (at_place r.parts.lifted j).begun) (sym (ap (has_number v) (began6 j (within j at)) ∙ has_number-append v (at_place r.parts.old j).began (at_place r.parts.lifted j).begun) ∙ there) none)
           ]);
       risen = λ j v at there.
-          let within : j < length r.parts.old = omega (arith, at, long60) in
-          ap (has_number v) (risen6 j within) ∙ has_number-append v (at_place r.parts.old j).risen (at_place r.parts.lifted j).begun ∙ elim (cases_Bool (has_number v (at_place r.parts.old j).began)) [
-            | inl was ↦ or_left (has_number v (at_place r.parts.old j).risen) (has_number v (at_place r.parts.lifted j).begun) (k.kept.risen j v within was)
-            | inr none ↦ or_right (has_number v (at_place r.parts.old j).risen) (has_number v (at_place r.parts.lifted j).begun) (or_either (has_number v (at_place r.parts.old j).began) (has_number v (at_place r.parts.lifted j).begun) (sym (ap (has_number v) (began6 j within) ∙ has_number-append v (at_place r.parts.old j).began (at_place r.parts.lifted j).begun) ∙ there) none)
+          ap (has_number v) (risen6 j (within j at)) ∙ has_number-append v (at_place r.parts.old j).risen (at_place r.parts.lifted j).begun ∙ elim (cases_Bool (has_number v (at_place r.parts.old j).began)) [
+            | inl was ↦ or_left (has_number v (at_place r.parts.old j).risen) (has_number v (at_place r.parts.lifted j).begun) (k.kept.risen j v (within j at) was)
+            | inr none ↦ or_right (has_number v (at_place r.parts.old j).risen) (has_number v (at_place r.parts.lifted j).begun) (or_either (has_number v (at_place r.parts.old j).began) (has_number v (at_place r.parts.lifted j).begun) (sym (ap (has_number v) (began6 j (within j at)) ∙ has_number-append v (at_place r.parts.old j).began (at_place r.parts.lifted j).begun) ∙ there) none)
           ];
       few = few_on;
       inside = λ j v at there.
-          let within : j < length r.parts.old = omega (arith, at, long60) in
-          let now : has_number v (mid g r h j within).watch.doubtful ≡ true = ap (λ (w : Watch). has_number v w.doubtful) (sym (watch_risen g r h j within)) ∙ ap (has_number v) (sym (doubtful6 j within)) ∙ there in
-          held6 j v within (elim ((watched_mid g r h j within).inside v now) [
-            | inr is ↦ held_back_lifted g r h.before j within v is
-            | inl was ↦ elim ((watched_parted g r h.before j within).inside v (ap (λ (w : Watch). has_number v w.doubtful) (sym (watch_lifted g r h.before j within)) ∙ was)) [
-              | inr is ↦ held_back_stopped g r h.before j within v is
-              | inl listed ↦ absurd (true≢false (sym listed ∙ ap (λ (w : Watch). has_number v w.doubtful) (watch_stopped g r h.before j within)))
+          let now : has_number v (mid g r h j (within j at)).watch.doubtful ≡ true = ap (λ (w : Watch). has_number v w.doubtful) (sym (watch_risen g r h j (within j at))) ∙ ap (has_number v) (sym (doubtful6 j (within j at))) ∙ there in
+          held6 j v (within j at) (elim ((watched_mid g r h j (within j at)).inside v now) [
+            | inr is ↦ held_back_lifted g r h.before j (within j at) v is
+            | inl was ↦ elim ((watched_parted g r h.before j (within j at)).inside v (ap (λ (w : Watch). has_number v w.doubtful) (sym (watch_lifted g r h.before j (within j at))) ∙ was)) [
+              | inr is ↦ held_back_stopped g r h.before j (within j at) v is
+              | inl listed ↦ absurd (true≢false (sym listed ∙ ap (λ (w : Watch). has_number v w.doubtful) (watch_stopped g r h.before j (within j at))))
             ]
           ]);
     }
@@ -212,13 +206,12 @@ module _ (p : Profile) (g : GraphShape) (x : List ℕ) (r : Passage) (k : AreKee
     pub rest_on : AreAtRest (cut_of r.bits p6 told6)
     rest_on = record {
       own = λ j i v w at there.
-          let within : j < length r.parts.old = omega (arith, at, long60) in
-          let now : has_edge (v, w) (get_or (at_place r.parts.risen j).meetings i []) ≡ true = ap (λ (q : Part). has_edge (v, w) (get_or q.meetings i [])) (sym (taken_at j within)) ∙ there in
-          held6 j v within (elim (cases_lt i 65535) [
-            | inr past ↦ absurd (true≢false (sym now ∙ ap (has_edge (v, w)) (past_new p g x r k h graph small few tops j i within past)))
-            | inl low ↦ met_held j i v w within low now
+          let now : has_edge (v, w) (get_or (at_place r.parts.risen j).meetings i []) ≡ true = ap (λ (q : Part). has_edge (v, w) (get_or q.meetings i [])) (sym (taken_at j (within j at))) ∙ there in
+          held6 j v (within j at) (elim (cases_lt i 65535) [
+            | inr past ↦ absurd (true≢false (sym now ∙ ap (has_edge (v, w)) (past_new p g x r k h graph small few tops j i (within j at) past)))
+            | inl low ↦ met_held j i v w (within j at) low now
           ]);
-      begun = λ j at. let within : j < length r.parts.old = omega (arith, at, long60) in ap (λ (q : Part). q.begun) (taken_at j within) ∙ begun_risen g r h j within;
+      begun = λ j at. ap (λ (q : Part). q.begun) (taken_at j (within j at)) ∙ begun_risen g r h j (within j at);
       steps = λ j at. ap (λ (q : Part). q.steps) (taken_at j (omega (arith, at, long60)));
     }
       where

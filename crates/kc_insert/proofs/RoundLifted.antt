@@ -2,6 +2,7 @@
 use Rattle.std.proofs.Common.{ℕ, ◌+◌, ◌≤◌, ◌<◌, ◌≡◌, ◌≢◌, ◌⊎◌, inl, inr, true, false, cond, not, ◌&&◌, ◌||◌, List, ◌++◌, length, get_or, ap, sym, ◌∙◌, arith}
 use Rattle.std.specs.List.{flat_map}
 use Rattle.std.proofs.lemmas.Bool.{and_from, and_right, cases_Bool, lt-ltb, or_from, or_left, or_right, true≢false}
+use Rattle.std.proofs.lemmas.Bool.Decides.{nat_tests}
 use Rattle.kc_graph.specs.Numbers.{has_number}
 use Rattle.kc_graph.specs.Shape.{GraphShape}
 use Rattle.kc_levels.specs.declared.profile.Profile.{Profile}
@@ -36,9 +37,7 @@ module _ (p : Profile) (g : GraphShape) (x : List ℕ) (r : Passage) (k : AreKee
     | inr none ↦ elim (k.sweeping.awaited.found v at) [
       | inl meets ↦ absurd (many_breaks p g x (before_step r) k.sweeping v r.levels.old.level at on (omega (arith, many, k.most_is)) meets)
       | inr (inl rises_) ↦ absurd (true≢false (sym rises_ ∙ listed_old v ∙ none))
-      | inr (inr waits) ↦
-          let there : has_number v (waits_in r.levels.old.level r.parts.old) ≡ true = ap (λ l. has_number v (waits_in l r.parts.old)) (sym on) ∙ waits.1 in
-          inr (begun_is p g x r k h.before v ∙ and_from (has_number v (waits_in r.levels.old.level r.parts.old)) _ there (lt-ltb r.most (count_in r.bits r.parts.old v) many))
+      | inr (inr waits) ↦ grind (arith, nat_tests, waits_in, begun_is, and_from, lt-ltb, waits.1, h.before, waits)
     ]
   ]
 
@@ -175,9 +174,7 @@ module _ (p : Profile) (g : GraphShape) (x : List ℕ) (r : Passage) (k : AreKee
   pub passed : ArePassed (before_step r) (after_step r) (stay_in r.parts.stopped) (begun_in r.parts.lifted)
   passed = record {
     stays = λ v. elim (cases_Bool (has_number v (stay_in r.parts.stopped))) [
-      | inl there ↦
-          let few = stay_few p g x r k h.before v there in
-          there ∙ sym (and_from (has_number v (before_step r).rising) (not (has_number v (after_step r).rising)) (listed_old v ∙ few.0) (ap not (rising_is v ∙ few_out v few.1)))
+      | inl there ↦ grind (arith, nat_tests, stay_few, and_from, listed_old, rising_is, few_out, h.before, there)
       | inr gone ↦ gone ∙ sym (not_staying v gone)
     ];
     begins = λ v. elim (move_of p g x r k h.before v) [

@@ -3,6 +3,7 @@ use Rattle.std.proofs.Common.{ℕ, ◌+◌, ◌≤◌, ◌<◌, ◌≡◌, inl, 
 use Rattle.std.specs.List.{flat_map}
 use Rattle.std.proofs.lemmas.Bool.{cases_Bool, cases_lt, or_from, or_left, or_right, true≢false}
 use Rattle.std.proofs.lemmas.List.{get_or_past, get_or-set_other, length-set}
+use Rattle.std.proofs.lemmas.Bool.Decides.{nat_tests}
 use Rattle.kc_graph.specs.Numbers.{has_number}
 use Rattle.kc_graph.specs.Shape.{GraphShape, Pair, IsGraph, has_edge}
 use Rattle.kc_graph.proofs.lemmas.Neighbours.{neighbour_below}
@@ -32,9 +33,7 @@ module _ (p : Profile) (g : GraphShape) (x : List ℕ) (r : Passage) (k : AreKee
   past_old j i at past = get_or_past (at_place r.parts.old j).meetings i [] (omega (arith, past, few, k.shape.meetings j at))
 
   pub past_new : (j i : ℕ) → j < length r.parts.old → 65535 ≤ i → get_or (at_place r.parts.risen j).meetings i [] ≡ []
-  past_new j i at past =
-      ap (λ (m : List (List Pair)). get_or m i []) (meetings_risen g r h j at)
-      ∙ get_or_past (mid g r h j at).meetings i [] (omega (arith, past, few, k.shape.meetings j at, (rose_at g r h j at).risen.meetings.sized, length-set (at_place r.parts.lifted j).meetings r.levels.old.level [], ap (λ (m : List (List Pair)). length m) (meetings_lifted g r h.before j at)))
+  past_new j i at past = grind (arith, nat_tests, meetings_risen, get_or_past, mid, rose_at, length-set, meetings_lifted, h.before)
 
   met_before : (i : ℕ) → flat_map (λ (q : Part). get_or q.meetings i []) r.parts.lifted ≡ (before_step r).meets i
   met_before i = joined_same (λ (q : Part). get_or q.meetings i []) (λ (q : Part). get_or q.meetings i []) r.parts.lifted r.parts.old (long_lifted g r h.before) (λ j at. ap (λ (m : List (List Pair)). get_or m i []) (meetings_lifted g r h.before j at))
@@ -62,20 +61,10 @@ module _ (p : Profile) (g : GraphShape) (x : List ℕ) (r : Passage) (k : AreKee
       ∙ ap (λ es. has_edge e ((before_step r).meets i) || has_edge e es) (sym (joined_rows (meetings_of (second_step p g x r k h.before graph small) i) (λ (q : Part). q.begun) r.parts.lifted))
 
   nothing_old : (i : ℕ) (e : Pair) → 65535 ≤ i → has_edge e ((before_step r).meets i) ≡ false
-  nothing_old i e past = elim (cases_Bool (has_edge e ((before_step r).meets i))) [
-    | inr none ↦ none
-    | inl there ↦
-        let in_ = pairs_in (λ (q : Part). get_or q.meetings i []) r.parts.old e there in
-        absurd (true≢false (sym in_.2 ∙ ap (has_edge e) (past_old in_.0 i in_.1 past)))
-  ]
+  nothing_old i e past = grind (arith, nat_tests, pairs_in, true≢false, past_old)
 
   nothing_new : (i : ℕ) (e : Pair) → 65535 ≤ i → has_edge e ((after_step r).meets i) ≡ false
-  nothing_new i e past = elim (cases_Bool (has_edge e ((after_step r).meets i))) [
-    | inr none ↦ none
-    | inl there ↦
-        let in_ = pairs_in (λ (q : Part). get_or q.meetings i []) r.parts.risen e there in
-        absurd (true≢false (sym in_.2 ∙ ap (has_edge e) (past_new in_.0 i (omega (arith, in_.1, long_risen g r h)) past)))
-  ]
+  nothing_new i e past = grind (arith, nat_tests, pairs_in, true≢false, past_new, long_risen)
 
   -- a pair among the new meetings
   new_on : (i v w : ℕ) → i < 65535 → has_edge (v, w) (new_met i) ≡ true → (has_number v (begun_in r.parts.lifted) ≡ true) × IsMeeting g x i v w
@@ -94,9 +83,7 @@ module _ (p : Profile) (g : GraphShape) (x : List ℕ) (r : Passage) (k : AreKee
       | inr past ↦ absurd (true≢false (sym there ∙ nothing_new i (v, w) past))
       | inl low ↦ elim (cases_Bool (has_edge (v, w) ((before_step r).meets i))) [
         | inl was ↦ inl was
-        | inr none ↦
-            let it = new_on i v w low (or_either (has_edge (v, w) ((before_step r).meets i)) (has_edge (v, w) (new_met i)) (sym (edges_after i (v, w) above low) ∙ there) none) in
-            inr (listed_lifted p g x r k h v ∙ rises_lifted p g x r k h.before v ∙ or_right (rises r.levels.stopped v) (has_number v (begun_in r.parts.lifted)) it.0, it.1)
+        | inr none ↦ grind (arith, nat_tests, new_on, or_either, edges_after, listed_lifted, rises_lifted, or_right, begun_in, h.before)
       ]
     ];
     each = λ i v w above up on it. elim (move_of p g x r k h.before v) [
@@ -108,10 +95,7 @@ module _ (p : Profile) (g : GraphShape) (x : List ℕ) (r : Passage) (k : AreKee
           let low : i < 65535 = omega (arith, was.1, it.level, k.sweeping.placed.raising.capped w below, tops) in
           edges_after i (v, w) above low ∙ or_right (has_edge (v, w) ((before_step r).meets i)) (has_edge (v, w) (new_met i)) (rows_among g r.levels.lifted.stored r.levels.old.level i (begun_in r.parts.lifted) v w new it.near above (stands w i below above (was.1 ∙ it.level)))
     ];
-    apart = λ i above. elim (cases_lt i 65535) [
-      | inl low ↦ copies_apart ((after_step r).meets i) (λ e. once i e above low)
-      | inr past ↦ copies_apart ((after_step r).meets i) (λ e. omega (arith, copies_none e ((after_step r).meets i) (nothing_new i e past)))
-    ];
+    apart = λ i above. grind (arith, nat_tests, cases_lt i 65535, copies_apart, once, copies_none, nothing_new);
   }
     where
       stands : (w i : ℕ) → w < g.vertices → r.levels.old.level < i → get_or (seen r.levels.old) w 0 ≡ i → get_or r.levels.lifted.stored w 0 ≡ i

@@ -1,9 +1,10 @@
 -- A step of a sweep: what its last call, the pass over all ranges, asks.
-use Rattle.std.proofs.Common.{ℕ, ◌+◌, ◌-◌, ◌^◌, ◌≤◌, ◌<◌, ◌≡◌, inl, inr, Bool, true, false, cond, leb, ltb, eqb, ◌&&◌, List, [], length, get_or, refl, ap, sym, subst, ◌∙◌, arith}
+use Rattle.std.proofs.Common.{ℕ, ◌+◌, ◌-◌, ◌^◌, ◌≤◌, ◌<◌, ◌≡◌, inl, inr, Bool, true, cond, leb, eqb, ◌&&◌, List, [], length, get_or, refl, ap, sym, subst, ◌∙◌, arith}
 use Rattle.std.specs.Prelude.{count_by}
 use Rattle.std.proofs.lemmas.Bool.{cases_Bool, cases_eq, cases_lt, ltb-true, or_from, or_left, or_right, true≢false}
 use Rattle.std.proofs.lemmas.List.{get_or_default, get_or_past, length-set}
 use Rattle.std.proofs.lemmas.List.Sums.{count_by-le-length}
+use Rattle.std.proofs.lemmas.Bool.Decides.{nat_tests}
 use Rattle.kc_graph.specs.Numbers.{has_number}
 use Rattle.kc_graph.specs.Shape.{GraphShape, IsGraph, Pair, has_edge, neighbours_of}
 use Rattle.kc_graph.proofs.lemmas.Neighbours.{neighbour_below}
@@ -74,8 +75,7 @@ module _ (p : Profile) (g : GraphShape) (x : List ℕ) (r : Passage) (k : AreKee
   ]
     where
       cond_few : (b : Bool) (n : ℕ) → cond b n 0 ≤ n
-      cond_few true n = omega arith
-      cond_few false n = omega arith
+      cond_few b n = grind (arith, nat_tests)
 
   -- no count is greater than a degree
   count_few : (v : ℕ) → v < g.vertices → count_in r.bits r.parts.lifted v ≤ g.vertices
@@ -88,22 +88,13 @@ module _ (p : Profile) (g : GraphShape) (x : List ℕ) (r : Passage) (k : AreKee
   )
 
   small_at : (i v : ℕ) → i < length r.parts.old → count_at (at_place r.parts.lifted i).watch v ≤ 2 ^ 24
-  small_at i v at = elim (cases_lt v (at_place r.parts.lifted i).watch.first) [
-    | inr from ↦ above v from
-    | inl below ↦ omega (arith, above (at_place r.parts.lifted i).watch.first (omega arith), ap (λ n. get_or (at_place r.parts.lifted i).watch.counts n 0) (start v below))
-  ]
+  small_at i v at = grind (arith, nat_tests, cases_lt v (at_place r.parts.lifted i).watch.first, above, start)
     where
       start : (u : ℕ) → u < (at_place r.parts.lifted i).watch.first → u - (at_place r.parts.lifted i).watch.first ≡ (at_place r.parts.lifted i).watch.first - (at_place r.parts.lifted i).watch.first
       start u below = omega (arith, below)
 
       above : (u : ℕ) → (at_place r.parts.lifted i).watch.first ≤ u → count_at (at_place r.parts.lifted i).watch u ≤ 2 ^ 24
-      above u from = elim (cases_lt u ((at_place r.parts.lifted i).watch.first + length (at_place r.parts.lifted i).watch.counts)) [
-        | inr past ↦ omega (arith, get_or_past (at_place r.parts.lifted i).watch.counts (u - (at_place r.parts.lifted i).watch.first) 0 (omega (arith, past, from)))
-        | inl inside_ ↦
-            let held : HasVertex (at_place r.parts.lifted i).watch u = record { from = from; below = inside_ } in
-            let own = own_count p g x r.bits r.most r.level_count r.levels.old r.parts.old r.old_told k i u at (held_back_lifted g r h i at u held) in
-            omega (arith, count_few u own.0, few, ap (λ j. count_at (at_place r.parts.lifted j).watch u) own.1)
-      ]
+      above u from = grind (arith, nat_tests, get_or_past, own_count, held_back_lifted, count_few)
 
   -- one range
   module _ (i : ℕ) (at : i < length r.parts.old) where
@@ -148,14 +139,7 @@ module _ (p : Profile) (g : GraphShape) (x : List ℕ) (r : Passage) (k : AreKee
         place : (w : ℕ) → is_above rise_step w ≡ true → get_or r.levels.lifted.stored w 0 ≤ top_level p g.vertices
         place w above = elim (cases_lt w g.vertices) [
           | inr past ↦ omega (arith, get_or_past r.levels.lifted.stored w 0 (omega (arith, past, sized_parted p g x r k h, k.sweeping.placed.raising.sized, length-seen r.levels.lifted)))
-          | inl in_ ↦ elim (cases_Bool (rises r.levels.lifted w)) [
-            | inl up ↦ absurd (omega (arith, stored_rising p g x r k h graph small w up, ltb-true (get_or r.levels.lifted.stored w 0) 65535 (and_second (ltb r.levels.old.level (get_or r.levels.lifted.stored w 0)) (ltb (get_or r.levels.lifted.stored w 0) 65535) above)))
-            | inr none ↦ elim (move_of p g x r k h w) [
-              | goes on out ↦ absurd (true≢false (sym (rises_lifted p g x r k h w ∙ or_left (rises r.levels.stopped w) (has_number w (begun_in r.parts.lifted)) on) ∙ none))
-              | begins off new ↦ absurd (true≢false (sym (rises_lifted p g x r k h w ∙ or_right (rises r.levels.stopped w) (has_number w (begun_in r.parts.lifted)) new) ∙ none))
-              | stays off out ↦ omega (arith, stored_still p g x r k h graph small w in_ none, seen_same p g x r k h w off out, k.sweeping.placed.raising.capped w in_)
-            ]
-          ]
+          | inl in_ ↦ grind (arith, nat_tests, stored_rising, ltb-true, and_second, move_of, goes, true≢false, rises_lifted, or_left, begun_in, begins, or_right, stays, stored_still, seen_same, in_)
         ]
 
   pub ask_rise : (tells : List Tell) → length tells ≡ length r.parts.old → ((i : ℕ) (e : Tell) → i < length r.parts.old → length (get_or tells i e).lists ≡ length r.parts.old) → CanRiseAll rise_step r.parts.lifted tells

@@ -177,16 +177,10 @@ module _ (p : Profile) (g : GraphShape) (x : List ℕ) (r : Passage) (k : AreKee
 
   pub move_of : (v : ℕ) → IsMove v
   move_of v = elim (cases_Bool (has_number v (begun_in r.parts.lifted))) [
-    | inl there ↦ elim (cases_Bool (rises r.levels.stopped v)) [
-      | inl on ↦ absurd (true≢false (sym (left_here v on).3 ∙ (begun_here v there).3))
-      | inr off ↦ begins off there
-    ]
+    | inl there ↦ grind (arith, nat_tests, cases_Bool (rises r.levels.stopped v), true≢false, left_here, begun_here)
     | inr none ↦ elim (cases_Bool (rises r.levels.stopped v)) [ inl on ↦ goes on none | inr off ↦ stays off none ]
   ]
 
   -- a vertex that rose doesn't begin again
   pub begun_fresh : (v : ℕ) → has_number v (begun_in r.parts.lifted) ≡ true → has_number v (risen_in r.parts.old) ≡ false
-  begun_fresh v there = elim (cases_Bool (has_number v (risen_in r.parts.old))) [
-    | inr none ↦ none
-    | inl rose ↦ absurd (omega (arith, (rose_below p g x (sweeping_of r.levels.old (cut_of r.bits r.parts.old r.old_told)) k.sweeping v rose).1, (begun_here v there).1))
-  ]
+  begun_fresh v there = grind (arith, nat_tests, rose_below, begun_here)

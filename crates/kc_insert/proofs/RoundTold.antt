@@ -2,7 +2,7 @@
 use Rattle.std.proofs.Common.{ℕ, ◌+◌, ◌<◌, ◌≡◌, ◌≢◌, inl, inr, true, false, cond, leb, ltb, eqb, ◌&&◌, List, [], ◌++◌, length, get_or, ap, sym, ◌∙◌, arith, subst}
 use Rattle.std.specs.Prelude.{count_by}
 use Rattle.std.specs.List.{flat_map}
-use Rattle.std.proofs.lemmas.Bool.{cases_Bool, cases_lt, eqb-true, le-leb, le-ltb, lt-leb, lt-ltb, ne_eqb, or_from, or_left, or_right, true≢false}
+use Rattle.std.proofs.lemmas.Bool.{cases_Bool, eqb-true, le-leb, le-ltb, lt-leb, lt-ltb, ne_eqb, or_from, or_left, or_right, true≢false}
 use Rattle.std.proofs.lemmas.Bool.Decides.{nat_tests}
 use Rattle.kc_graph.specs.Numbers.{has_number}
 use Rattle.kc_graph.specs.Shape.{GraphShape, Pair, IsGraph, neighbours_of, has_edge}
@@ -58,16 +58,7 @@ module _ (p : Profile) (g : GraphShape) (x : List ℕ) (r : Passage) (k : AreKee
 
   -- a vertex is above the level if what stands for it in the list is
   pub above_is : (u : ℕ) → u < g.vertices → ltb r.levels.old.level (get_or r.levels.lifted.stored u 0) ≡ leb (r.levels.old.level + 1) (get_or (seen r.levels.lifted) u 0)
-  above_is u at = elim (cases_Bool (rises r.levels.lifted u)) [
-    | inl up ↦ lt-ltb r.levels.old.level (get_or r.levels.lifted.stored u 0) (omega (arith, stored_rising u up, small)) ∙ sym (le-leb (r.levels.old.level + 1) (get_or (seen r.levels.lifted) u 0) (omega (arith, on_next u up)))
-    | inr none ↦ ap (ltb r.levels.old.level) (stored_still u at none) ∙ same (get_or (seen r.levels.lifted) u 0)
-  ]
-    where
-      same : (a : ℕ) → ltb r.levels.old.level a ≡ leb (r.levels.old.level + 1) a
-      same a = elim (cases_lt r.levels.old.level a) [
-        | inl lt ↦ lt-ltb r.levels.old.level a lt ∙ sym (le-leb (r.levels.old.level + 1) a (omega (arith, lt)))
-        | inr ge ↦ le-ltb r.levels.old.level a ge ∙ sym (lt-leb (r.levels.old.level + 1) a (omega (arith, ge)))
-      ]
+  above_is u at = grind (arith, nat_tests, lt-ltb, stored_rising, le-leb, on_next, stored_still, le-ltb, lt-leb)
 
   -- a vertex that goes on hears of each neighbour that stays
   pub less_told : (v : ℕ) → times v (flat_map (rising_near (step_at g r.levels.stopped r.bits r.levels.old.level r.less)) (stay_in r.parts.stopped)) ≡ cond (rises r.levels.stopped v) (count_by (λ u. has_number u (stay_in r.parts.stopped)) (near v)) 0
@@ -83,10 +74,7 @@ module _ (p : Profile) (g : GraphShape) (x : List ℕ) (r : Passage) (k : AreKee
   -- the meetings of v are in its range
   met_own : (v u : ℕ) → v < g.vertices → has_edge (v, u) (own_met v) ≡ has_edge (v, u) (met_on r.levels.old.level)
   met_own v u at = ap (has_edge (v, u)) (own_met_is v at) ∙ elim (cases_Bool (has_edge (v, u) (met_on r.levels.old.level))) [
-    | inl there ↦
-        let in_ = pairs_in (λ (q : Part). get_or q.meetings r.levels.old.level []) r.parts.old (v, u) there in
-        let own = own_count p g x r.bits r.most r.level_count r.levels.old r.parts.old r.old_told k in_.0 v in_.1 (k.rest.own in_.0 r.levels.old.level v u in_.1 in_.2) in
-        ap (λ j. has_edge (v, u) (get_or (at_place r.parts.old j).meetings r.levels.old.level [])) own.1 ∙ in_.2 ∙ sym there
+    | inl there ↦ grind (arith, nat_tests, pairs_in, own_count, at_place, there)
     | inr none ↦ elim (cases_Bool (has_edge (v, u) (get_or (place_of r.bits r.parts.old v).meetings r.levels.old.level []))) [
       | inr gone ↦ gone ∙ sym none
       | inl here ↦ absurd (true≢false (sym (pairs_of (λ (q : Part). get_or q.meetings r.levels.old.level []) r.parts.old (v, u) (range_of r.bits v) (vertex_in p g x r.bits r.most r.level_count r.levels.old r.parts.old r.old_told k v at).0 here) ∙ none))
@@ -137,30 +125,14 @@ module _ (p : Profile) (g : GraphShape) (x : List ℕ) (r : Passage) (k : AreKee
       ])
 
       not_there : get_or r.levels.lifted.stored v 0 ≢ r.levels.old.level + 1
-      not_there e = elim (cases_Bool (rises r.levels.lifted v)) [
-        | inl up ↦ absurd (omega (arith, stored_rising v up, e, small))
-        | inr none ↦ elim (move_of p g x r k h v) [
-          | goes on gone ↦ absurd (true≢false (sym (rises_lifted p g x r k h v ∙ or_left (rises r.levels.stopped v) (has_number v (begun_in r.parts.lifted)) on) ∙ none))
-          | begins out new ↦ absurd (true≢false (sym (rises_lifted p g x r k h v ∙ or_right (rises r.levels.stopped v) (has_number v (begun_in r.parts.lifted)) new) ∙ none))
-          | stays out gone ↦ off (sym (seen_same p g x r k h v out gone) ∙ sym (stored_still v at none) ∙ e)
-        ]
-      ]
+      not_there e = grind (arith, nat_tests, stored_rising, move_of, goes, true≢false, rises_lifted, or_left, begun_in, begins, or_right, stays, seen_same, stored_still)
 
       no_near : cond (eqb (get_or r.levels.lifted.stored v 0) (r.levels.old.level + 1)) (count_by (λ u. has_number u (begun_in r.parts.lifted)) (near v)) 0 ≡ 0
       no_near = ap (λ b. cond b (count_by (λ u. has_number u (begun_in r.parts.lifted)) (near v)) 0) (ne_eqb (get_or r.levels.lifted.stored v 0) (r.levels.old.level + 1) not_there)
 
   -- a vertex that doesn't rise and is above the level stands where it stood
   pub above_stood : (w j : ℕ) → w < g.vertices → r.levels.old.level < j → j < 65535 → get_or r.levels.lifted.stored w 0 ≡ j → get_or x w 0 ≡ j
-  above_stood w j at above low on = elim (cases_Bool (rises r.levels.lifted w)) [
-    | inl up ↦ absurd (omega (arith, stored_rising w up, on, low))
-    | inr none ↦ elim (move_of p g x r k h w) [
-      | goes up gone ↦ absurd (true≢false (sym (rises_lifted p g x r k h w ∙ or_left (rises r.levels.stopped w) (has_number w (begun_in r.parts.lifted)) up) ∙ none))
-      | begins off new ↦ absurd (true≢false (sym (rises_lifted p g x r k h w ∙ or_right (rises r.levels.stopped w) (has_number w (begun_in r.parts.lifted)) new) ∙ none))
-      | stays off gone ↦
-          let here : get_or (seen r.levels.old) w 0 ≡ j = sym (seen_same p g x r k h w off gone) ∙ sym (stored_still w at none) ∙ on in
-          sym (k.sweeping.placed.stood w (omega (arith, here, above)) (off_level p g x (before_step r) k.sweeping w (λ e. absurd (omega (arith, e, here, above))))) ∙ here
-    ]
-  ]
+  above_stood w j at above low on = grind (arith, nat_tests, cases_Bool (rises r.levels.lifted w), stored_rising, move_of, goes, true≢false, rises_lifted, or_left, begun_in, begins, or_right, stays, seen_same, stored_still, off_level)
 
   abbrev pub IsNext : ℕ → Type 0
   IsNext w = (w < g.vertices) × (get_or x w 0 ≡ r.levels.old.level + 1)

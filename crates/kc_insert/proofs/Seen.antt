@@ -1,6 +1,6 @@
 -- The levels during a sweep: what a write does to them and to the rising vertices.
-use Rattle.std.proofs.Common.{ℕ, ◌<◌, ◌≡◌, ◌≢◌, inl, inr, true, false, eqb, not, ◌&&◌, ◌||◌, List, length, get_or, set, ap, ◌∙◌, arith}
-use Rattle.std.proofs.lemmas.Bool.{cases_eq, true≢false}
+use Rattle.std.proofs.Common.{ℕ, ◌<◌, ◌≡◌, ◌≢◌, true, false, eqb, not, ◌&&◌, ◌||◌, List, length, get_or, set, ap, ◌∙◌, arith}
+use Rattle.std.proofs.lemmas.Bool.{true≢false}
 use Rattle.std.proofs.lemmas.Bool.Decides.{nat_tests}
 use Rattle.std.proofs.lemmas.List.{length-map, map-set, get_or-map, get_or-set_same, get_or-set_other, get_or_past}
 use Rattle.std.proofs.lemmas.Grind.{same_number_lists}
@@ -51,10 +51,7 @@ stopped_seen s t v up same is = rw (same, is) (map-set_same (level_of s.level) s
 
 stopped_rises_at : (s t : RisingLevels) (v : ℕ) → s.level < 65535 → v < length s.stored → t.stored ≡ set s.stored v s.level → (u : ℕ) → rises t u ≡ rises s u && not (eqb u v)
 unfolding rises
-stopped_rises_at s t v small long is u = rw is (elim (cases_eq u v) [
-  | inl e ↦ rw e (grind (arith, nat_tests, small, get_or-set_same s.stored v s.level 0 long))
-  | inr ne ↦ grind (arith, nat_tests, ne, get_or-set_other s.stored v u s.level 0 ne)
-])
+stopped_rises_at s t v small long is u = grind (arith, nat_tests, get_or-set_same, get_or-set_other)
 
 pub stopped_rises : (s t : RisingLevels) (v : ℕ) → s.level < 65535 → rises s v ≡ true → t.stored ≡ set s.stored v s.level → (u : ℕ) → rises t u ≡ rises s u && not (eqb u v)
 stopped_rises s t v small up is u = stopped_rises_at s t v small (rw (length-seen s) at (rises_inside s v up)) is u

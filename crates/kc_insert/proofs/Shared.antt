@@ -72,9 +72,7 @@ module _ (bits : ℕ) (told : List Tell) (old : List Part) (can : CanLessen bits
     pub can_hear : (d : Part) → CanHearLess told i (get_or old i d)
     can_hear d = record {
       lists = λ k t h. omega (arith, at, lists.sized k t h);
-      held = λ v there.
-          let in_it = in_range_has bits i v (told_all told) (ap (has_number v) (sym is) ∙ there) in
-          subst (λ j. HasVertex (get_or old j d).watch v) in_it.1 (can.held v d in_it.0).1;
+      held = λ v there. grind (arith, nat_tests, in_range_has, is, can.held);
       enough = λ v. elim (cases_lt 0 (times v (heard_by i told))) [
         | inr none ↦ omega (arith, none)
         | inl some ↦
@@ -121,9 +119,7 @@ module _ (bits level : ℕ) (told : List Tell) (old : List Part) (can : CanMeet 
     pub can_meet : AreFew old → (d : Part) → CanHearMore told i level (get_or old i d)
     can_meet few d = record {
       lists = λ k t h. omega (arith, at, lists.sized k t h);
-      held = λ v there.
-          let in_it = in_range_has bits i v (told_all told) (ap (has_number v) (sym same) ∙ there) in
-          subst (λ j. HasVertex (get_or old j d).watch v) in_it.1 (can.held v d in_it.0).1;
+      held = λ v there. grind (arith, nat_tests, in_range_has, same, can.held);
       small = λ v. elim (cases_lt 0 (times v (heard_by i told))) [
         | inr none ↦ omega (arith, none, few i d v at)
         | inl some ↦

@@ -1,6 +1,6 @@
 -- Rising vertices of a range that count few stay on the level, one after another.
-use Rattle.std.proofs.Common.{ℕ, ◌+◌, ◌≤◌, ◌<◌, ◌≡◌, inl, inr, true, false, eqb, not, ◌&&◌, List, [], ◌∷◌, ◌++◌, length, get_or, ap, sym, ◌∙◌, arith, subst}
-use Rattle.std.proofs.lemmas.Bool.{cases_eq, true≢false}
+use Rattle.std.proofs.Common.{ℕ, ◌+◌, ◌≤◌, ◌<◌, ◌≡◌, true, false, eqb, not, ◌&&◌, List, [], ◌∷◌, ◌++◌, length, get_or, ◌∙◌, arith}
+use Rattle.std.proofs.lemmas.Bool.{true≢false}
 use Rattle.std.proofs.lemmas.Bool.Decides.{nat_tests}
 use Rattle.std.proofs.lemmas.Grind.{same_number_lists}
 use Rattle.kc_graph.specs.Numbers.{has_number}
@@ -37,29 +37,14 @@ module _ (old : RisingLevels) (watch : Watch) (listed : List ℕ) (i : ℕ) (new
     level = level ∙ s.level;
     seen_on = same ∙ s.seen_on;
     rises_on = λ u. left u ∙ grind (arith, nat_tests, s.rises_on u, has_number-push u item stay);
-    stays = λ u in_it. elim (pushed_is u item stay in_it) [
-      | inr early ↦ s.stays u early
-      | inl e ↦ rw e (was, few)
-    ];
-    from = λ u in_it. elim (pushed_is u item stay in_it) [
-      | inr early ↦ s.from u early
-      | inl e ↦ rw e there
-    ];
-    over = λ j h up. elim (cases_eq j i) [
-      | inr ne ↦ s.over j (omega (arith, h, ne)) (grind (arith, nat_tests, up, left (get_or listed j 0)))
-      | inl e ↦ absurd (true≢false (sym (ap (λ k. rises next (get_or listed k 0)) (sym e) ∙ up) ∙ gone))
-    ];
+    stays = λ u in_it. grind (arith, nat_tests, pushed_is, s.stays);
+    from = λ u in_it. grind (arith, nat_tests, pushed_is, s.from);
+    over = λ j h up. grind (arith, nat_tests, true≢false, s.over);
     distinct = distinct_push stay item s.distinct fresh;
   }
     where
-      was : rises old item ≡ true
-      was = grind (arith, nat_tests, on, s.rises_on item)
-
       fresh : has_number item stay ≡ false
       fresh = grind (arith, nat_tests, on, s.rises_on item)
-
-      gone : rises next item ≡ false
-      gone = left item ∙ grind (arith, nat_tests)
 
   pub letting_passes : (rises new item ≡ true → watch.most < count_at watch item) → IsLettingStay old watch listed (i + 1) new stay
   letting_passes over = record {
@@ -68,10 +53,7 @@ module _ (old : RisingLevels) (watch : Watch) (listed : List ℕ) (i : ℕ) (new
     rises_on = s.rises_on;
     stays = s.stays;
     from = s.from;
-    over = λ j h up. elim (cases_eq j i) [
-      | inr ne ↦ s.over j (omega (arith, h, ne)) up
-      | inl e ↦ subst (λ k. watch.most < count_at watch (get_or listed k 0)) (sym e) (over (ap (λ k. rises new (get_or listed k 0)) (sym e) ∙ up))
-    ];
+    over = λ j h up. grind (arith, nat_tests, s.over);
     distinct = s.distinct;
   }
 
@@ -80,14 +62,10 @@ letting_last old w i new stay end s = record {
   rises_on = s.rises_on;
   stays = s.stays;
   watched = s.from;
-  over = λ v there up.
-      let place = has_number_index v w.doubtful there in
-      subst (λ u. w.most < count_at w u) place.2 (s.over place.0 (omega (arith, place.1, end)) (ap (rises new) place.2 ∙ up));
+  over = λ v there up. grind (arith, nat_tests, has_number_index, s.over);
   distinct = s.distinct;
 }
 
 -- where nobody rises the levels are those in the list
 pub nobody_rises : (s : RisingLevels) → ((v : ℕ) → rises s v ≡ false) → s.stored ≡ seen s
-nobody_rises s none = same_number_lists s.stored (seen s) (sym (length-seen s)) (λ v h. sym (stored_at s v (rw (length-seen s) h) (none v)))
-
--- one more begins to rise, and is on the level k
+nobody_rises s none = grind (arith, nat_tests, same_number_lists, length-seen, stored_at)

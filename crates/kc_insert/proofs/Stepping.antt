@@ -1,5 +1,5 @@
 -- The step of a sweep from its level to the next keeps what is stated of the sweep.
-use Rattle.std.proofs.Common.{ℕ, ◌+◌, ◌*◌, ◌≤◌, ◌<◌, ◌≡◌, ◌≢◌, ◌⊎◌, inl, inr, Bool, true, false, eqb, not, ◌&&◌, ◌||◌, List, length, get_or, filter, refl, ap, sym, ◌∙◌, arith, subst}
+use Rattle.std.proofs.Common.{ℕ, ◌+◌, ◌*◌, ◌≤◌, ◌<◌, ◌≡◌, ◌≢◌, ◌⊎◌, Bool, true, false, not, ◌&&◌, ◌||◌, List, length, get_or, filter, ap, sym, ◌∙◌, arith, subst}
 use Rattle.std.proofs.lemmas.Bool.{cases_Bool, or_right, true≢false}
 use Rattle.std.proofs.lemmas.Bool.Decides.{nat_tests}
 use Rattle.std.proofs.lemmas.List.{get_or_past}
@@ -83,25 +83,13 @@ module _ (p : Profile) (g : GraphShape) (x : List ℕ) (s t : Sweeping) (most ab
   stood_on v at none = grind (arith, nat_tests, case_of, true≢false, off_level, i.placed.stood, r.level)
 
   moved_on : (v : ℕ) → has_number v t.risen ≡ is_moved x t.levels v
-  moved_on v = r.lifted.risen v ∙ elim (case_of v) [
-    | inl it ↦ ap (λ b. has_number v s.risen || b) it.4 ∙ or_true (has_number v s.risen) ∙ sym (less_differs (get_or x v 0) (get_or t.levels v 0) (omega (arith, under p g x s i v, it.1, it.3)))
-    | inr it ↦ ap (λ b. has_number v s.risen || b) it.1 ∙ or_false (has_number v s.risen) ∙ i.rise.moved v ∙ ap (λ k. not (eqb (get_or x v 0) k)) (sym it.0)
-  ]
-    where
-      or_true : (b : Bool) → b || true ≡ true
-      or_true b = grind (arith, nat_tests)
-
-      or_false : (b : Bool) → b || false ≡ b
-      or_false b = grind (arith, nat_tests)
+  moved_on v = grind (arith, nat_tests, case_of, less_differs, under, r.lifted.risen, i.rise.moved)
 
   module _ (graph : IsGraph g) (room : s.level < top_level p g.vertices) (most_is : most ≡ high p (group_of p g.vertices s.level)) (above_is : above ≡ high p (group_of p g.vertices (s.level + 1))) where
     placed_on : IsPlaced p g x t
     placed_on = record {
       start = i.placed.start;
-      raising = raising_many p g x s.levels t.levels graph i.placed.raising long (λ v h. elim (case_of v) [
-        | inl it ↦ inr (omega (arith, it.1, it.3), many_breaks p g x s i v s.level it.0 it.1 (omega (arith, it.2, most_is)))
-        | inr it ↦ inl it.0
-      ]);
+      raising = raising_many p g x s.levels t.levels graph i.placed.raising long (λ v h. grind (arith, nat_tests, case_of v, case_of, many_breaks));
       stood = stood_on;
     }
 
@@ -121,27 +109,12 @@ module _ (p : Profile) (g : GraphShape) (x : List ℕ) (s t : Sweeping) (most ab
     awaited_on : AreAwaited p g x t
     awaited_on = record {
       counted = r.step.counted;
-      waiting = λ k v at there. elim (r.waiting.only k v (omega (arith, at, r.level)) there) [
-        | inl was ↦ i.awaited.waiting k v (omega (arith, at, r.level)) was
-        | inr new ↦ new
-      ];
+      waiting = λ k v at there. grind (arith, nat_tests, r.waiting.only, r.level, i.awaited.waiting);
       found = found_on;
-      met = λ k v w at there. elim (r.meeting.only k v w (omega (arith, at, r.level)) there) [
-        | inl was ↦ let it = i.awaited.met k v w (omega (arith, at, r.level)) was in (r.lifted.risen v ∙ ap (λ b. b || has_number v t.rising) it.0, it.1)
-        | inr new ↦ (r.lifted.risen v ∙ or_right (has_number v s.risen) (has_number v t.rising) new.0, new.1)
-      ];
-      each = λ k v w at rose it. elim (cases_Bool (has_number v s.risen)) [
-        | inl was ↦ r.meeting.still k v w (omega (arith, at, r.level)) (i.awaited.each k v w (omega (arith, at, r.level)) was it)
-        | inr new ↦
-            let rises : has_number v t.rising ≡ true = or_either (has_number v s.risen) (has_number v t.rising) (sym (r.lifted.risen v) ∙ rose) new in
-            let from : get_or x v 0 ≡ get_or s.levels v 0 = same (get_or x v 0) (get_or s.levels v 0) (sym (i.rise.moved v) ∙ new) in
-            r.meeting.each k v w (omega (arith, at, r.level)) rises (from ∙ (r.lifted.rise v rises).1) it
-      ];
+      met = λ k v w at there. grind (arith, nat_tests, or_right, r.meeting.only, r.level, i.awaited.met, r.lifted.risen);
+      each = λ k v w at rose it. grind (arith, nat_tests, or_either, r.meeting.still, r.level, i.awaited.each, r.lifted.risen, i.rise.moved, r.meeting.each, r.lifted.rise);
       apart = λ k at. r.meeting.apart k (omega (arith, at, r.level));
     }
-      where
-        same : (a b : ℕ) → not (eqb a b) ≡ false → a ≡ b
-        same a b e = grind (arith, nat_tests, e)
 
     -- a step keeps what is stated of the sweep
     pub stepped : IsSweeping p g x t
@@ -159,21 +132,10 @@ module _ (p : Profile) (g : GraphShape) (x : List ℕ) (s t : Sweeping) (most ab
         (λ v. r.lifted.risen v ∙ all v (cases_Bool (has_number v s.rising)))
       where
         fresh : (v : ℕ) → has_number v s.risen ≡ true → has_number v t.rising && not (has_number v s.rising) ≡ false
-        fresh v rose = elim (cases_Bool (has_number v t.rising)) [
-          | inr none ↦ grind (arith, nat_tests, none)
-          | inl rises ↦
-              let on = (r.lifted.rise v rises).1 in
-              let low = (rose_below p g x s i v rose).1 in
-              let was : has_number v s.rising ≡ true = elim (cases_Bool (has_number v s.rising)) [
-                | inl was ↦ was
-                | inr none ↦ absurd (omega (arith, low, on, i.placed.stood v (omega (arith, on)) none))
-              ] in
-              grind (arith, nat_tests, was)
-        ]
+        fresh v rose = grind (arith, nat_tests, rose_below, r.lifted.rise, i.placed.stood)
 
         all : (v : ℕ) → (has_number v s.rising ≡ true) ⊎ (has_number v s.rising ≡ false) → has_number v s.risen || has_number v t.rising ≡ has_number v s.risen || has_number v begun
-        all v (inl was) = grind (arith, nat_tests, rises_rose p g x s i v was)
-        all v (inr none) = ap (λ b. has_number v s.risen || b) (sym (passed.begins v ∙ grind (arith, nat_tests, none)))
+        all v it = grind (arith, nat_tests, rises_rose, passed.begins)
 
     abbrev up : List ℕ
     up = filter (λ v. has_number v t.rising) s.rising
@@ -194,9 +156,7 @@ module _ (p : Profile) (g : GraphShape) (x : List ℕ) (s t : Sweeping) (most ab
         apart a b e = grind (arith, nat_tests, e)
 
         parts : (a b : Bool) → a ≡ (a && b) || (a && not b)
-        parts true true = refl
-        parts true false = refl
-        parts false b = refl
+        parts a b = grind (arith, nat_tests)
 
     -- the vertices that rise go on or begin
     rise_parts : weigh f t.rising ≡ weigh f up + weigh f begun
@@ -208,10 +168,7 @@ module _ (p : Profile) (g : GraphShape) (x : List ℕ) (s t : Sweeping) (most ab
         apart a b e = grind (arith, nat_tests, e)
 
         parts : (a b : Bool) → b ≡ (a && b) || (b && not a)
-        parts true true = refl
-        parts true false = refl
-        parts false true = refl
-        parts false false = refl
+        parts a b = grind (arith, nat_tests)
 
   -- a step keeps what is stated of the steps: each vertex that stays or begins costs a pass over its neighbours
   pub paid_on : (stay begun : List ℕ) (first now : ℕ) → ArePassed s t stay begun → IsPaid g x s first now → IsPaid g x t first (now + (degrees g stay + degrees g begun))

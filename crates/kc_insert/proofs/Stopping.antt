@@ -1,7 +1,6 @@
 -- The vertices that still rise stay where they are, range by range.
-use Rattle.std.proofs.Common.{ℕ, ◌+◌, ◌<◌, ◌≡◌, inl, inr, Bool, true, false, eqb, not, ◌&&◌, ◌||◌, List, [], ◌∷◌, ◌++◌, length, get_or, take, refl, ap, sym, ◌∙◌, arith}
+use Rattle.std.proofs.Common.{ℕ, ◌+◌, ◌<◌, ◌≡◌, Bool, true, false, eqb, not, ◌&&◌, ◌||◌, List, [], ◌∷◌, ◌++◌, length, get_or, take, refl, ap, sym, ◌∙◌, arith}
 use Rattle.std.specs.List.{flat_map}
-use Rattle.std.proofs.lemmas.Bool.{cases_eq}
 use Rattle.std.proofs.lemmas.Bool.Decides.{nat_tests}
 use Rattle.std.proofs.lemmas.List.{append-nil, take_more}
 use Rattle.std.proofs.lemmas.Grind.{flat_map-append}
@@ -43,10 +42,7 @@ module _ (a b : RisingLevels) (vs : List ℕ) (i : ℕ) (at : i < length vs) (s 
   stopped_none off = rw more (stopped_on a b b (take i vs) (get_or vs i 0 ∷ []) s (record {
     level = refl;
     levels = refl;
-    rest = λ u. elim (cases_eq u (get_or vs i 0)) [
-      | inl e ↦ ap (rises b) e ∙ off ∙ grind (arith, nat_tests, ap (rises b) e ∙ off, e)
-      | inr ne ↦ grind (arith, nat_tests, ne)
-    ];
+    rest = λ u. grind (arith, nat_tests);
   }))
 
 -- one range after another

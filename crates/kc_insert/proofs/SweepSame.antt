@@ -1,5 +1,6 @@
 -- What is stated of a sweep depends on what its tests say alone.
-use Rattle.std.proofs.Common.{ℕ, ◌≡◌, inl, inr, List, get_or, ap, sym, ◌∙◌, subst}
+use Rattle.std.proofs.Common.{ℕ, ◌≡◌, List, ap, sym, ◌∙◌, subst, arith}
+use Rattle.std.proofs.lemmas.Bool.Decides.{nat_tests}
 use Rattle.kc_graph.specs.Numbers.{has_number}
 use Rattle.kc_graph.specs.Shape.{GraphShape, Pair, has_edge}
 use Rattle.kc_levels.specs.declared.profile.Profile.{Profile}
@@ -14,11 +15,7 @@ sweeping_as p g x s count waits meets counted waiting met i = record {
   awaited = record {
     counted = λ v h. counted v ∙ i.awaited.counted v h;
     waiting = λ k v at there. i.awaited.waiting k v at (ap (has_number v) (sym (waiting k)) ∙ there);
-    found = λ v h. elim (i.awaited.found v h) [
-      | inl meets_ ↦ inl meets_
-      | inr (inl rises) ↦ inr (inl rises)
-      | inr (inr waits_) ↦ inr (inr (waits_.0, ap (has_number v) (waiting (get_or s.levels v 0)) ∙ waits_.1))
-    ];
+    found = λ v h. grind (arith, nat_tests, i.awaited.found v h, i.awaited.found);
     met = λ k v w at there. i.awaited.met k v w at (ap (has_edge (v, w)) (sym (met k)) ∙ there);
     each = λ k v w at rose it. ap (has_edge (v, w)) (met k) ∙ i.awaited.each k v w at rose it;
     apart = λ k at. subst AreApart (sym (met k)) (i.awaited.apart k at);

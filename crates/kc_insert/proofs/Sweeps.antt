@@ -1,6 +1,6 @@
 -- How a sweep begins, goes on to the next level where a vertex waits, and ends.
-use Rattle.std.proofs.Common.{ℕ, ◌≤◌, ◌<◌, ◌≡◌, inl, inr, true, List, [], length, get_or, ap, sym, ◌∙◌, arith}
-use Rattle.std.proofs.lemmas.Bool.{cases_lt, true≢false}
+use Rattle.std.proofs.Common.{ℕ, ◌≤◌, ◌<◌, ◌≡◌, true, List, [], length, ap, sym, ◌∙◌, arith}
+use Rattle.std.proofs.lemmas.Bool.{true≢false}
 use Rattle.std.proofs.lemmas.Bool.Decides.{nat_tests}
 use Rattle.kc_graph.specs.Numbers.{has_number}
 use Rattle.kc_graph.specs.Shape.{GraphShape, Pair, IsGraph}
@@ -32,14 +32,7 @@ sweeping_on p g x s k none le bare i = record {
   awaited = record {
     counted = i.awaited.counted;
     waiting = λ j v at there. i.awaited.waiting j v (omega (arith, at, le)) there;
-    found = λ v h. elim (i.awaited.found v h) [
-      | inl meets ↦ inl meets
-      | inr (inl rises) ↦ absurd (nobody v rises)
-      | inr (inr waits) ↦ elim (cases_lt (get_or s.levels v 0) k) [
-        | inl lt ↦ absurd (true≢false (sym waits.1 ∙ ap (has_number v) (bare (get_or s.levels v 0) waits.0 lt)))
-        | inr ge ↦ inr (inr (ge, waits.1))
-      ]
-    ];
+    found = λ v h. grind (arith, nat_tests, i.awaited.found v h, nobody, true≢false, i.awaited.found);
     met = λ j v w at there. i.awaited.met j v w (omega (arith, at, le)) there;
     each = λ j v w at rose it. i.awaited.each j v w (omega (arith, at, le)) rose it;
     apart = λ j at. i.awaited.apart j (omega (arith, at, le));

@@ -1,7 +1,7 @@
 -- Tests on truth values and numbers, and counts of what passes.
-use Rattle.std.proofs.Common.{ℕ, ◌+◌, ◌<◌, ◌≡◌, ◌≢◌, inl, inr, Bool, true, false, cond, eqb, not, ◌&&◌, ◌||◌, List, [], ◌∷◌, map, filter, refl, ap, sym, ◌∙◌, arith, suc}
+use Rattle.std.proofs.Common.{ℕ, ◌+◌, ◌<◌, ◌≡◌, ◌≢◌, inl, inr, Bool, true, false, cond, eqb, not, ◌&&◌, ◌||◌, List, [], ◌∷◌, map, filter, refl, ap, sym, arith, suc}
 use Rattle.std.specs.Prelude.{count_by}
-use Rattle.std.proofs.lemmas.Bool.{cases_Bool, ne_eqb, true≢false, cases_eq}
+use Rattle.std.proofs.lemmas.Bool.{ne_eqb, true≢false, cases_eq}
 use Rattle.std.proofs.lemmas.Bool.Decides.{nat_tests}
 use Rattle.kc_graph.specs.Numbers.{has_number, RisesFrom}
 use Rattle.kc_graph.specs.Shape.{Pair}
@@ -10,23 +10,19 @@ use Rattle.kc_graph.proofs.lemmas.Numbers.{has_number_below}
 use Rattle.kc_insert.specs.private.Telling.{times}
 
 pub and_first : (a b : Bool) → a && b ≡ true → a ≡ true
-and_first true b e = refl
-and_first false b e = e
+and_first a b e = grind (arith, nat_tests)
 
 pub and_second : (a b : Bool) → a && b ≡ true → b ≡ true
-and_second true b e = e
-and_second false b e = grind (arith, nat_tests, e)
+and_second a b e = grind (arith, nat_tests)
 
 pub and_on : (a b : Bool) → a ≡ true → a && b ≡ b
 and_on a b e = rw e refl
 
 pub or_either : (a b : Bool) → a || b ≡ true → a ≡ false → b ≡ true
-or_either true b e f = grind (arith, nat_tests, f)
-or_either false b e f = e
+or_either a b e f = grind (arith, nat_tests)
 
 pub or_off : (a b : Bool) → b ≡ false → a || b ≡ a
-or_off true b e = refl
-or_off false b e = e
+or_off a b e = grind (arith, nat_tests)
 
 pub not_second : (a b : Bool) → a ≡ true → a && not b ≡ false → b ≡ true
 not_second a b e f = grind (arith, nat_tests, e, f)
@@ -62,14 +58,7 @@ count_none p (x ∷ xs) none = grind (arith, nat_tests, count_none p xs (λ u th
 -- no pair that passes has v first if v fails
 pub firsts_none : (p : ℕ → Bool) (q : Pair → Bool) (v : ℕ) (es : List Pair) → p v ≡ false → times v (map (λ (e : Pair). e.0) (filter (λ (e : Pair). p e.0 && q e) es)) ≡ 0
 firsts_none p q v [] fails = refl
-firsts_none p q v (e ∷ es) fails = elim (cases_Bool (p e.0 && q e)) [
-  | inr no_ ↦ ap (λ b. times v (map (λ (f : Pair). f.0) (cond b (e ∷ filter (λ (f : Pair). p f.0 && q f) es) (filter (λ (f : Pair). p f.0 && q f) es)))) no_ ∙ firsts_none p q v es fails
-  | inl yes_ ↦ ap (λ b. times v (map (λ (f : Pair). f.0) (cond b (e ∷ filter (λ (f : Pair). p f.0 && q f) es) (filter (λ (f : Pair). p f.0 && q f) es)))) yes_ ∙ omega (
-    arith,
-    firsts_none p q v es fails,
-    ap bit (ne_eqb e.0 v (λ same. true≢false (sym (and_first (p e.0) (q e) yes_) ∙ ap p same ∙ fails))),
-  )
-]
+firsts_none p q v (e ∷ es) fails = grind (arith, nat_tests, firsts_none p q v es fails, ne_eqb, true≢false, and_first)
 
 -- two tests that agree on the numbers of a list count the same
 pub count_agree : (p q : ℕ → Bool) (xs : List ℕ) → ((x : ℕ) → has_number x xs ≡ true → p x ≡ q x) → count_by p xs ≡ count_by q xs
@@ -80,12 +69,7 @@ count_agree p q (x ∷ xs) same = grind (arith, nat_tests, count_agree p q xs (�
 pub count_less : (p q : ℕ → Bool) (v low : ℕ) (xs : List ℕ) → RisesFrom low xs → has_number v xs ≡ true → p v ≡ true → q v ≡ false → ((x : ℕ) → x ≢ v → p x ≡ q x) → count_by p xs ≡ count_by q xs + 1
 count_less p q v low [] up there yes_ no_ same = absurd (true≢false (sym there))
 count_less p q v low (x ∷ xs) up there yes_ no_ same = elim (cases_eq x v) [
-  | inl e ↦
-      let gone = has_number_below (suc x) v xs up.1 (omega arith) in
-      let later : count_by p xs ≡ count_by q xs = count_agree p q xs (λ y at. same y (λ f. true≢false (sym at ∙ ap (λ k. has_number k xs) f ∙ gone))) in
-      let one : cond (p x) 1 0 + 0 ≡ 1 = rw (e, yes_) refl in
-      let none : cond (q x) 1 0 + 0 ≡ 0 = rw (e, no_) refl in
-      omega (arith, count_by-cons p x xs, count_by-cons q x xs, later, one, none)
+  | inl e ↦ grind (arith, nat_tests, has_number_below, count_agree, true≢false, count_by-cons, up.1, e)
   | inr ne ↦
       let later = count_less p q v (suc x) xs up.1 (grind (arith, nat_tests, there, ne)) yes_ no_ same in
       let here : cond (p x) 1 0 + 0 ≡ cond (q x) 1 0 + 0 = ap (λ b. cond b 1 0 + 0) (same x ne) in

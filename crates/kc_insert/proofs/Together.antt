@@ -1,6 +1,6 @@
 -- The vertices that came to a level rise from it together, over several levels at once: they count each other on each of the levels,
 -- and no other vertex that they count, or that counts them, stands on the way.
-use Rattle.std.proofs.Common.{ℕ, suc, zero, ◌+◌, ◌-◌, ◌≤◌, ◌<◌, ◌≡◌, inl, inr, true, false, eqb, not, List, get_or, refl, ap, sym, ◌∙◌, arith, subst}
+use Rattle.std.proofs.Common.{ℕ, suc, zero, ◌+◌, ◌-◌, ◌≤◌, ◌<◌, ◌≡◌, inl, inr, true, false, List, get_or, refl, ap, sym, ◌∙◌, arith, subst}
 use Rattle.std.proofs.lemmas.Bool.{cases_lt, cases_Bool, true≢false}
 use Rattle.std.proofs.lemmas.Bool.Decides.{nat_tests}
 use Rattle.std.proofs.lemmas.Grind.{same_number_lists}
@@ -54,10 +54,7 @@ module _ (p : Profile) (g : GraphShape) (x : List ℕ) (s : Sweeping) (i : IsSwe
   rising_together = record {
     came = λ v there. let it = i.rise.came v there in (it.0, come_to v there, omega (arith, it.2, le));
     distinct = i.rise.distinct;
-    moved = λ v. elim (cases_Bool (has_number v s.rising)) [
-      | inl there ↦ rises_rose p g x s i v there ∙ sym (less_differs (get_or x v 0) (get_or (all_at s.levels s.rising k) v 0) (omega (arith, (i.rise.came v there).2, le, come_to v there)))
-      | inr none ↦ i.rise.moved v ∙ ap (λ j. not (eqb (get_or x v 0) j)) (sym (kept v none))
-    ];
+    moved = λ v. grind (arith, nat_tests, rises_rose, less_differs, come_to, kept);
     once = i.rise.once;
   }
 
@@ -65,17 +62,7 @@ module _ (p : Profile) (g : GraphShape) (x : List ℕ) (s : Sweeping) (i : IsSwe
   awaited_together = record {
     counted = counted_together;
     waiting = λ j v at there. i.awaited.waiting j v (omega (arith, at, le)) there;
-    found = λ v h. elim (cases_Bool (has_number v s.rising)) [
-      | inl there ↦ inr (inl there)
-      | inr none ↦ elim (i.awaited.found v h) [
-        | inl meets ↦ inl (subst (λ j. at_least g (all_at s.levels s.rising k) v (get_or (all_at s.levels s.rising k) v 0) ≤ high p (group_of p g.vertices j)) (sym (kept v none)) (omega (arith, meets, same_together v)))
-        | inr (inl rises) ↦ absurd (true≢false (sym rises ∙ none))
-        | inr (inr waits) ↦ elim (cases_lt (get_or s.levels v 0) k) [
-          | inl lt ↦ absurd (true≢false (sym waits.1 ∙ ap (has_number v) (free.none_waits (get_or s.levels v 0) waits.0 lt)))
-          | inr ge ↦ inr (inr (omega (arith, ge, kept v none), ap (λ j. has_number v (s.waits j)) (kept v none) ∙ waits.1))
-        ]
-      ]
-    ];
+    found = λ v h. grind (arith, nat_tests, kept, same_together, true≢false, free.none_waits);
     met = λ j v w at there. i.awaited.met j v w (omega (arith, at, le)) there;
     each = λ j v w at rose it. i.awaited.each j v w (omega (arith, at, le)) rose it;
     apart = λ j at. i.awaited.apart j (omega (arith, at, le));

@@ -1,5 +1,5 @@
 -- Counts of a range with a watch list: one change of a count, and many.
-use Rattle.std.proofs.Common.{ℕ, ◌+◌, ◌-◌, ◌≤◌, ◌<◌, ◌≡◌, ◌≢◌, inl, inr, true, false, cond, List, [], ◌∷◌, ◌++◌, length, get_or, set, filter, append-nil, take, refl, ap, sym, ◌∙◌, arith}
+use Rattle.std.proofs.Common.{ℕ, ◌+◌, ◌-◌, ◌≤◌, ◌<◌, ◌≡◌, ◌≢◌, inl, true, false, cond, List, [], ◌∷◌, ◌++◌, length, get_or, set, filter, append-nil, take, refl, ap, sym, ◌∙◌, arith}
 use Rattle.std.proofs.lemmas.Bool.{cases_eq}
 use Rattle.std.proofs.lemmas.Bool.Decides.{nat_tests}
 use Rattle.std.proofs.lemmas.List.{length-set, get_or-set_same, get_or-set_other}
@@ -21,17 +21,8 @@ watched_on a b c s t = record {
   sized = t.sized ∙ s.sized;
   most = t.most ∙ s.most;
   still = λ v there. t.still v (s.still v there);
-  inside = λ v there. elim (t.inside v there) [
-    | inl old ↦ s.inside v old
-    | inr held ↦ inr (record { from = omega (arith, held.from, s.first); below = omega (arith, held.below, s.first, s.sized) })
-  ];
-  fell = λ v from few. elim (t.fell v (omega (arith, from, s.first)) (omega (arith, few, s.most))) [
-    | inr there ↦ inr there
-    | inl was ↦ elim (s.fell v from (omega (arith, was, s.most))) [
-      | inl old ↦ inl old
-      | inr there ↦ inr (t.still v there)
-    ]
-  ];
+  inside = λ v there. grind (arith, nat_tests, t.inside, s.inside, s.first, s.sized);
+  fell = λ v from few. grind (arith, nat_tests, t.fell, s.first, s.most, s.fell, t.still);
 }
 
 -- a vertex of the range has a place of its own
@@ -59,14 +50,8 @@ module _ (a b : Watch) (v k : ℕ) (held : HasVertex a v) (first : b.first ≡ a
     sized = count_sized;
     most = most;
     still = λ u there. ap (has_number u) more ∙ has_number-push u v a.doubtful ∙ grind (arith, nat_tests, there);
-    inside = λ u there. elim (pushed_is u v a.doubtful (sym (ap (has_number u) more) ∙ there)) [
-      | inl e ↦ inr (rw e held)
-      | inr old ↦ inl old
-    ];
-    fell = λ u from few. elim (cases_eq u v) [
-      | inl e ↦ inr (rw (more, e) (has_last v a.doubtful))
-      | inr ne ↦ inl (omega (arith, few, count_other u from ne))
-    ];
+    inside = λ u there. grind (arith, nat_tests, pushed_is);
+    fell = λ u from few. grind (arith, nat_tests, cases_eq u v, has_last, count_other);
   }
 
 -- each of the first i of the list counted one less
@@ -90,10 +75,7 @@ module _ (a b : Watch) (xs : List ℕ) (i : ℕ) (at : i < length xs) (held : (v
   pub less_on : (c : Watch) → c.first ≡ b.first → c.counts ≡ set b.counts (get_or xs i 0 - b.first) (count_at b (get_or xs i 0) - 1) → StayWatched b c → IsLess a c xs (i + 1)
   less_on c first is t = record {
     watched = watched_on a b c s.watched t;
-    less = λ v from. elim (cases_eq v (get_or xs i 0)) [
-      | inl e ↦ rw e (omega (arith, count_here b c (get_or xs i 0) (count_at b (get_or xs i 0) - 1) less_held first is, less_some, one, s.less (get_or xs i 0) was.from))
-      | inr ne ↦ omega (arith, count_other b c (get_or xs i 0) (count_at b (get_or xs i 0) - 1) less_held first is v (omega (arith, from, s.watched.first)) ne, s.less v from, none v ne)
-    ];
+    less = λ v from. grind (arith, nat_tests, cases_eq v (get_or xs i 0), count_here, less_held, less_some, one, was, count_other, none, s.less, s.watched.first);
   }
     where
       none : (v : ℕ) → v ≢ get_or xs i 0 → times v (take (i + 1) xs) ≡ times v (take i xs)

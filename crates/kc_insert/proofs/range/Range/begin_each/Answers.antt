@@ -23,8 +23,7 @@ loop-i-init c = (
 
 pub neighbours-near-requires : goal.neighbours-near-requires
 neighbours-near-requires c =
-    let begun_is : c.deref.result.now ≡ c.self.inside.begun.items = c.deref.ensures.value ∙ c.loop-i.invariant.0.4 in
-    let v_is : c.vertex_with_prefetch-v.result ≡ get_or c.self.inside.begun.items c.loop-i.i 0 = c.vertex_with_prefetch-v.ensures ∙ ap (λ (vs : List ℕ). get_or vs c.loop-i.i 0) begun_is in
+    let v_is : c.vertex_with_prefetch-v.result ≡ get_or c.self.inside.begun.items c.loop-i.i 0 = c.vertex_with_prefetch-v.ensures ∙ ap (λ (vs : List ℕ). get_or vs c.loop-i.i 0) (c.deref.ensures.value ∙ c.loop-i.invariant.0.4) in
     let asked = (rw (← c.self.view_is) at c.requires.vertices) (get_or c.self.inside.begun.items c.loop-i.i 0) (has_number_at _ c.self.inside.begun.items c.loop-i.i (omega arith) refl) in
     subst (λ k. k < c.step.inside.graph.now.vertices) (sym v_is) (rw (← c.step.view_is) at asked.0)
 
@@ -33,8 +32,7 @@ above_of-requires-clause-inside c = λ w near. rw (← c.step.view_is) (neighbou
 
 pub file_above-requires-clause-vertex : goal.file_above-requires-clause-vertex
 file_above-requires-clause-vertex c =
-    let begun_is : c.deref.result.now ≡ c.self.inside.begun.items = c.deref.ensures.value ∙ c.loop-i.invariant.0.4 in
-    let v_is : c.vertex_with_prefetch-v.result ≡ get_or c.self.inside.begun.items c.loop-i.i 0 = c.vertex_with_prefetch-v.ensures ∙ ap (λ (vs : List ℕ). get_or vs c.loop-i.i 0) begun_is in
+    let v_is : c.vertex_with_prefetch-v.result ≡ get_or c.self.inside.begun.items c.loop-i.i 0 = c.vertex_with_prefetch-v.ensures ∙ ap (λ (vs : List ℕ). get_or vs c.loop-i.i 0) (c.deref.ensures.value ∙ c.loop-i.invariant.0.4) in
     let asked = (rw (← c.self.view_is) at c.requires.vertices) (get_or c.self.inside.begun.items c.loop-i.i 0) (has_number_at _ c.self.inside.begun.items c.loop-i.i (omega arith) refl) in
     subst (λ k. k < c.args.step.now.graph.vertices) (sym v_is) asked.0
 
@@ -43,15 +41,13 @@ file_above-requires-clause-places c = λ w above. omega (arith, (rw (← c.self.
 
 pub put-requires : goal.put-requires
 put-requires c =
-    let begun_is : c.deref.result.now ≡ c.self.inside.begun.items = c.deref.ensures.value ∙ c.loop-i.invariant.0.4 in
-    let v_is : c.vertex_with_prefetch-v.result ≡ get_or c.self.inside.begun.items c.loop-i.i 0 = c.vertex_with_prefetch-v.ensures ∙ ap (λ (vs : List ℕ). get_or vs c.loop-i.i 0) begun_is in
+    let v_is : c.vertex_with_prefetch-v.result ≡ get_or c.self.inside.begun.items c.loop-i.i 0 = c.vertex_with_prefetch-v.ensures ∙ ap (λ (vs : List ℕ). get_or vs c.loop-i.i 0) (c.deref.ensures.value ∙ c.loop-i.invariant.0.4) in
     let asked = (rw (← c.self.view_is) at c.requires.vertices) (get_or c.self.inside.begun.items c.loop-i.i 0) (has_number_at _ c.self.inside.begun.items c.loop-i.i (omega arith) refl) in
     subst (HasVertex c.loop-i.self-inside.watched) (sym v_is) (held_still c.self.inside.watched c.loop-i.self-inside.watched _ asked.1 c.loop-i.invariant.1.counts.watched)
 
 pub loop-i-preserved : goal.loop-i-preserved
 loop-i-preserved c =
-    let begun_is : c.deref.result.now ≡ c.self.inside.begun.items = c.deref.ensures.value ∙ c.loop-i.invariant.0.4 in
-    let v_is : c.vertex_with_prefetch-v.result ≡ get_or c.self.inside.begun.items c.loop-i.i 0 = c.vertex_with_prefetch-v.ensures ∙ ap (λ (vs : List ℕ). get_or vs c.loop-i.i 0) begun_is in
+    let v_is : c.vertex_with_prefetch-v.result ≡ get_or c.self.inside.begun.items c.loop-i.i 0 = c.vertex_with_prefetch-v.ensures ∙ ap (λ (vs : List ℕ). get_or vs c.loop-i.i 0) (c.deref.ensures.value ∙ c.loop-i.invariant.0.4) in
     let asked = (rw (← c.self.view_is) at c.requires.vertices) (get_or c.self.inside.begun.items c.loop-i.i 0) (has_number_at _ c.self.inside.begun.items c.loop-i.i (omega arith) refl) in
     let all = c.self.inside.begun.items in
     let graph : c.step.inside.graph.now ≡ c.args.step.now.graph = ap (λ (s : Crossing). s.graph) c.step.view_is in
