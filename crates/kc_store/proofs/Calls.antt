@@ -18,7 +18,7 @@ use Rattle.kc_store.specs.private.Rule.{IsKept}
 use Rattle.kc_store.specs.private.Seats.{Sat}
 use Rattle.kc_store.specs.Seats.{writer_of, marker_of, vertices_of, seen_of, made_of, IsWriter}
 use Rattle.kc_store.specs.States.{with_phase}
-use Rattle.kc_store.specs.private.Steps.{at_writer, at_marker, begins, notes, marks, clears, publishes, lent_notes, lent_marks, lent_clears, has_read, pending, HasSeen, first_load, second_load, third_load}
+use Rattle.kc_store.specs.private.Steps.{at_writer, at_marker, begins, notes, marks, clears, publishes, lent_notes, lent_marks, lent_clears, pending, HasSeen, first_load, second_load, third_load}
 use Rattle.kc_store.proofs.Forms.{CanBegin, CanPublish}
 use Rattle.kc_store.proofs.Seats.{pred_is, notes_allowed, marks_allowed, clears_allowed, lent_notes_allowed, lent_marks_allowed, lent_clears_allowed}
 use Rattle.kc_store.proofs.Phases.{begins_allowed, publishes_allowed}
@@ -86,14 +86,10 @@ publishes_from key n slots id x l g me same is may named x_is =
 
 -- what a writer's step makes of its seat
 pub after_writer : (f : WriterState → WriterState) (me new : Sat) → Writing me → new ≡ (at_writer f me.0, me.1) → Writing new × (writer_of new.0 ≡ f (writer_of me.0))
-after_writer f me new is e =
-    let n : new ≡ (Writes (f (writer_of me.0)), []) = e ∙ ap (λ (z : Sat). (at_writer f z.0, z.1)) is in
-    (subst (λ (z : Sat). Writing z) (sym n) refl, ap (λ (z : Sat). writer_of z.0) n)
+after_writer f me new is e = grind (arith, nat_tests)
 
 pub after_marker : (f : MarkerState → MarkerState) (me new : Sat) → Marking me → new ≡ (at_marker f me.0, me.1) → Marking new × (marker_of new.0 ≡ f (marker_of me.0))
-after_marker f me new is e =
-    let n : new ≡ (Marks (f (marker_of me.0)), []) = e ∙ ap (λ (z : Sat). (at_marker f z.0, z.1)) is in
-    (subst (λ (z : Sat). Marking z) (sym n) refl, ap (λ (z : Sat). marker_of z.0) n)
+after_marker f me new is e = grind (arith, nat_tests)
 
 pub first_from : (key n slots id v : ℕ) (me : Sat) → key ≡ n → Reading me → v < vertices_of me.0 → vertices_of me.0 ≡ n → Allows (IsKept key) slots id me (v + 1) (λ n. n) (first_load (step slots (v + 1) 0 0 mathlib.Core.Option.none) me)
 first_from key n slots id v me same is inside vertices =
@@ -132,27 +128,19 @@ none_held : (me : Sat) → Reading me → me.1 ≡ []
 none_held me is = ap (λ (z : Sat). z.1) is
 
 pub first_done : (slots v word : ℕ) (old new : Sat) → Reading old → first_load (step slots (v + 1) 0 0 mathlib.Core.Option.none) old word new → (unpacked word).phase ≡ 0 → HasRead old new v (unpacked word).new
-first_done slots v word old new is h none =
-    let g = h.1 none in
-    has_read_of old new g.0 v (unpacked word).new (g.1 ∙ ap (λ (z : List (ℕ × ℕ)). (has_read old.0 g.0, z)) (none_held old is)) (subst (λ (k : ℕ). HasSeen (seen_of old.0) g.0 k (unpacked word).new) (pred_is v) g.2)
+first_done slots v word old new is h none = grind (arith, nat_tests, has_read_of, none_held, pred_is, h.1)
 
 pub first_left : (slots v word : ℕ) (old new : Sat) → Reading old → first_load (step slots (v + 1) 0 0 mathlib.Core.Option.none) old word new → (unpacked word).phase ≢ 0 → (from : List Entry) × LooksAfter old v word from new
-first_left slots v word old new is h some =
-    let g = h.2 some in
-    (g.0, g.1 ∙ (λ i. (Looks (pending old.0 (pred_is v i) word g.0), none_held old is i)))
+first_left slots v word old new is h some = grind (arith, nat_tests, pred_is, none_held, h.2)
 
 pub second_done : (slots place v word found : ℕ) (old mid new : Sat) (from : List Entry) → LooksAfter old v word from mid → second_load (step slots place 0 0 mathlib.Core.Option.none) mid found new → (unpacked word).phase ≤ found → HasRead old new v (unpacked word).new
-second_done slots place v word found old mid new from went h le =
-    let t = subst (λ (z : Sat). second_load (step slots place 0 0 mathlib.Core.Option.none) z found new) went h in
-    let g = t.0 le in has_read_of old new g.0 v (unpacked word).new g.1 g.2
+second_done slots place v word found old mid new from went h le = grind (arith, nat_tests, has_read_of)
 
 pub second_left : (slots place v word found : ℕ) (old mid new : Sat) (from : List Entry) → LooksAfter old v word from mid → second_load (step slots place 0 0 mathlib.Core.Option.none) mid found new → found < (unpacked word).phase → BelowAfter old v word from new
 second_left slots place v word found old mid new from went h lt = (subst (λ (z : Sat). second_load (step slots place 0 0 mathlib.Core.Option.none) z found new) went h).1 lt
 
 pub third_done : (slots place v word found : ℕ) (old mid new : Sat) (from : List Entry) → BelowAfter old v word from mid → third_load (step slots place 0 0 mathlib.Core.Option.none) mid found new → (found < 2 ^ 16) × HasRead old new v found
-third_done slots place v word found old mid new from went h =
-    let t = subst (λ (z : Sat). third_load (step slots place 0 0 mathlib.Core.Option.none) z found new) went h in
-    (t.0, has_read_of old new t.1.0 v found t.1.1 t.1.2)
+third_done slots place v word found old mid new from went h = grind (arith, nat_tests, has_read_of)
 
 -- the writer's seat after a phase began
 pub begun_writer : (old new : Seat ℕ Role) (plan : PhasePlan) → IsWriter old → new.table_id ≡ old.table_id → new.me ≡ (at_writer (with_phase plan) old.me.0, old.me.1) → CanBegin (writer_of old.me.0) plan → IsWriter new

@@ -124,8 +124,7 @@ formed_of n plan w = record { phase_is = refl; no_label = w.quiet_label; no_move
           (λ (s : (b : Move) × (last_move v e.moves ≡ Some b)).
           let z = move_found v e.moves s.0 s.1 in
           let x = vertex_is n plan k z.0 e s.0 p z.1 in
-          let same : k ≡ l = (w.once k l z.0 r.0 x.0 y.0 x.1 y.1 (x.2 ∙ (z.2 ∙ (sym r.2 ∙ sym y.2)))).0 in
-          absurd (omega (arith, same, lt)))
+          absurd (omega (arith, lt, (w.once k l z.0 r.0 x.0 y.0 x.1 y.1 (x.2 ∙ (z.2 ∙ (sym r.2 ∙ sym y.2)))).0)))
           (maybe_cases (last_move v e.moves));
     }
 

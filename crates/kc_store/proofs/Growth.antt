@@ -35,9 +35,7 @@ entries_snoc [] plan = append-nil (entries_of plan)
 entries_snoc (x ∷ xs) plan = ap (λ (zs : List Entry). entries_of x ++ zs) (entries_snoc xs plan) ∙ sym (append_assoc (entries_of x) (entries_in xs) (entries_of plan))
 
 take_all : (plan : PhasePlan) (count : ℕ) → count ≡ length plan.groups → take (count + 1) (entries_of plan) ≡ entries_of plan
-take_all plan count all =
-    let s : suc (length plan.groups) ≡ count + 1 = omega (arith, all) in
-    subst (λ (j : ℕ). take j (entries_of plan) ≡ entries_of plan) s (take-length (entries_of plan))
+take_all plan count all = grind (arith, nat_tests, take-length)
 
 -- the last plan's phase
 last_phase : (n before : ℕ) (plans : List PhasePlan) (plan : PhasePlan) → AllFormed n before (plans ++ plan ∷ []) → plan.quiet.phase ≡ before + length plans + 1

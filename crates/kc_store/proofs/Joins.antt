@@ -1,5 +1,5 @@
 -- Opening the table, and the steps by which a pass or a marker comes and goes.
-use Rattle.std.proofs.Common.{◌≡◌, ◌≢◌, ◌⊎◌, ℕ, zero, suc, ◌+◌, ◌*◌, ◌<◌, ◌≤◌, Bool, true, false, List, [], ◌∷◌, ◌++◌, Option, Some, None, Contains, drop, length, nat_eq, nat_lt, if◌then◌else◌, set, get_or, sym, refl, ap, ◌∙◌, subst, inl, inr, ⊎_elim, arith, le_refl, zero-le}
+use Rattle.std.proofs.Common.{◌≡◌, ◌≢◌, ◌⊎◌, ℕ, zero, suc, ◌+◌, ◌*◌, ◌<◌, ◌≤◌, Bool, true, false, List, [], ◌∷◌, ◌++◌, Some, None, Contains, drop, length, nat_eq, nat_lt, if◌then◌else◌, set, get_or, sym, refl, ap, ◌∙◌, subst, inl, inr, ⊎_elim, arith, le_refl, zero-le}
 use Rattle.std.proofs.lemmas.Bool.Decides.{nat_tests}
 use Rattle.std.proofs.lemmas.List.Elements.{Contains-append_cases, Contains-append_left, Contains-append_right}
 use mathlib.Core.Option.{some, some-injective, some-ne-none}
@@ -59,12 +59,10 @@ opens n p ws some_vertex small short sized head zeros = record {
 }
   where
     first : (j : ℕ) (v : Role) → get_elem? (first_role n p ∷ []) j ≡ some v → SeatHolds n (opened n p) 0 ws j v
-    first Rattle.std.proofs.Common.zero v e = subst (SeatHolds n (opened n p) 0 ws 0) (some-injective (first_role n p) v e) (refl, refl)
-    first (Rattle.std.proofs.Common.suc j) v e = absurd (some-ne-none v (sym e))
+    first j v e = grind (arith, nat_tests)
 
     no_marker : (j : ℕ) (v : Role) → get_elem? (first_role n p ∷ []) j ≡ some v → (k : ℕ) → number_of v ≡ Some k → ⊥
-    no_marker Rattle.std.proofs.Common.zero v e k h = let t : None ≡ Some k = ap number_of (some-injective (first_role n p) v e) ∙ h in cc
-    no_marker (Rattle.std.proofs.Common.suc j) v e k h = some-ne-none v (sym e)
+    no_marker j v e k h = grind (arith, nat_tests)
 
 tells : (n slots id : ℕ) (d : WriterState) → Allows (IsKept n) slots id (Writes d, []) 0 (λ n. n) (told (step slots 0 0 0 mathlib.Core.Option.none) (Writes d, []))
 tells n slots id d s r homes at bound =
@@ -87,9 +85,7 @@ at_end (x ∷ xs) a b (suc j) e = ⊎_elim (λ (t : get_elem? xs j ≡ some b). 
 
 -- a new seat, whose number no other has
 own_new : (vs : List Role) (w : Role) → ((i k : ℕ) (v : Role) → get_elem? vs i ≡ some v → number_of v ≡ Some k → number_of w ≡ Some k → ⊥) → AreOwnLoans vs → AreOwnLoans (vs ++ w ∷ [])
-own_new vs w none all i j k a b x y na nb = ⊎_elim
-    (λ (ai : get_elem? vs i ≡ some a). ⊎_elim (λ (bj : get_elem? vs j ≡ some b). all i j k a b ai bj na nb) (λ (e : (j ≡ length vs) × (w ≡ b)). absurd (none i k a ai na (ap number_of e.1 ∙ nb))) (at_end vs w b j y))
-    (λ (e : (i ≡ length vs) × (w ≡ a)). ⊎_elim (λ (bj : get_elem? vs j ≡ some b). absurd (none j k b bj nb (ap number_of e.1 ∙ na))) (λ (f : (j ≡ length vs) × (w ≡ b)). e.0 ∙ sym f.0) (at_end vs w b j y)) (at_end vs w a i x)
+own_new vs w none all i j k a b x y na nb = grind (arith, nat_tests, ⊎_elim, at_end)
 
 cuts : (n id : ℕ) (d : WriterState) → Splits (IsKept n) id (Writes d) (Writes d) (Reads d.vertices d.history (length d.history))
 cuts n id d s r at =
@@ -119,12 +115,7 @@ joined_writes n d seen ws p f = record {
 }
 
 others_joined : (n : ℕ) (d : WriterState) (seen : List Entry) (writer : ℕ) (ws : List ℕ) (j : ℕ) (v : Role) → j ≢ writer → SeatHolds n d writer ws j v → SeatHolds n (with_joined seen d) writer ws j v
-others_joined n d seen writer ws j Spent o k = tt
-others_joined n d seen writer ws j (Writes c) o k = absurd (o k.0)
-others_joined n d seen writer ws j (Marks m) o k = k
-others_joined n d seen writer ws j (Reads vertices s made) o k = k
-others_joined n d seen writer ws j (Looks q) o k = k
-others_joined n d seen writer ws j (FoundBelow q) o k = k
+others_joined n d seen writer ws j v o k = grind (arith, nat_tests)
 
 glues : (n id other vertices made : ℕ) (d : WriterState) (seen : List Entry) → Joins (IsKept n) id (Writes d) other (Reads vertices seen made) (Writes (with_joined seen d)) Spent
 glues n id other vertices made d seen s r at apart at' =
@@ -143,14 +134,11 @@ glues n id other vertices made d seen s r at apart at' =
     }
 
 pub glues_from : (key id other : ℕ) (me you : Sat) → me ≡ (Writes (writer_of me.0), []) → you ≡ (Reads (vertices_of you.0) (seen_of you.0) (made_of you.0), []) → Joins (IsKept key) id me.0 other you.0 (took_back me.0 you.0) Spent
-glues_from key id other me you is is' = subst (λ (m : Sat × Sat). Joins (IsKept key) id m.0.0 other m.1.0 (took_back m.0.0 m.1.0) Spent) (λ i. (sym is i, sym is' i))
-    (glues key id other (vertices_of you.0) (made_of you.0) (writer_of me.0) (seen_of you.0))
+glues_from key id other me you is is' = grind (arith, nat_tests, glues)
 
 pub glued_writer : (me you new : Sat) → me ≡ (Writes (writer_of me.0), []) → you ≡ (Reads (vertices_of you.0) (seen_of you.0) (made_of you.0), []) → new ≡ (took_back me.0 you.0, me.1)
     → (new ≡ (Writes (writer_of new.0), [])) × (writer_of new.0 ≡ with_joined (seen_of you.0) (writer_of me.0))
-glued_writer me you new is is' e =
-    let n : new ≡ (Writes (with_joined (seen_of you.0) (writer_of me.0)), []) = e ∙ ap (λ (m : Sat × Sat). (took_back m.0.0 m.1.0, m.0.1)) (λ i. (is i, is' i)) in
-    (subst (λ (z : Sat). z ≡ (Writes (writer_of z.0), [])) (sym n) refl, ap (λ (z : Sat). writer_of z.0) n)
+glued_writer me you new is is' e = grind (arith, nat_tests)
 
 -- a loan more
 published_flag : (g k : ℕ) → (nat_lt g k ≡ false → k ≤ g) × (nat_lt g k ≡ true → g < k)
@@ -166,35 +154,20 @@ listed_cases : (l x : Loan) (ls : List Loan) → Contains (l ∷ ls) x → (l �
 listed_cases l x ls on = grind (arith, nat_tests, on.0, on.1, on.2)
 
 others_lent : (n g from to : ℕ) (d : WriterState) (writer : ℕ) (ws : List ℕ) (j : ℕ) (v : Role) → j ≢ writer → SeatHolds n d writer ws j v → SeatHolds n (with_loan g from to d) writer ws j v
-others_lent n g from to d writer ws j Spent o k = tt
-others_lent n g from to d writer ws j (Writes c) o k = absurd (o k.0)
-others_lent n g from to d writer ws j (Marks m) o k = record {
-  listed = listed_more _ m.loan d.loans k.listed;
-  number_in = let lt = k.number_in in omega (arith, lt);
-  vertices_is = k.vertices_is;
-  phase_is = k.phase_is;
-  plan_is = k.plan_is;
-  early = k.early;
-  late = k.late;
-  marks = k.marks;
-}
-others_lent n g from to d writer ws j (Reads vertices s made) o k = k
-others_lent n g from to d writer ws j (Looks q) o k = k
-others_lent n g from to d writer ws j (FoundBelow q) o k = k
+others_lent n g from to d writer ws j v o k = grind (arith, nat_tests, listed_more)
 
 lends : (n id g from to : ℕ) (d : WriterState) → Splits (IsKept n) id (Writes d) (Writes (with_loan g from to d)) (Marks (marker_for g from to d))
 lends n id g from to d s r at =
     let mine = r.seats id (Writes d) at in
     let w : Role = Marks (marker_for g from to d) in
     let d' : WriterState = with_loan g from to r.state in
-    let st = r.writes in
     let all = seats_stay (SeatHolds n r.state r.writer s.words) (SeatHolds n d' r.writer s.words) s.views id (Writes (with_loan g from to d)) (mine.0, ap (with_loan g from to) mine.1)
     (λ j v o k. others_lent n g from to r.state r.writer s.words j v (λ e. o (e ∙ sym mine.0)) k) r.seats in
     let own = own_set s.views id (Writes d) (Writes (with_loan g from to d)) at (λ k h. h) r.own in
     let new : MarkerHolds n d'.loans d'.lent d'.phase d'.plan d'.published s.words (marker_for g from to r.state) = record {
       listed = listed_first _ r.state.loans;
       number_in = omega arith;
-      vertices_is = st.vertices_is;
+      vertices_is = r.writes.vertices_is;
       phase_is = refl;
       plan_is = refl;
       early = (published_flag g r.state.published).0;
@@ -204,13 +177,13 @@ lends n id g from to d s r at =
       state = d';
       writer = r.writer;
       writes = record {
-        vertices_is = st.vertices_is;
-        phases_are = st.phases_are;
-        grown = st.grown;
-        facts = st.facts;
-        plan = st.plan;
-        marks = st.marks;
-        begin = st.begin;
+        vertices_is = r.writes.vertices_is;
+        phases_are = r.writes.phases_are;
+        grown = r.writes.grown;
+        facts = r.writes.facts;
+        plan = r.writes.plan;
+        marks = r.writes.marks;
+        begin = r.writes.begin;
       };
       seats = λ j v e. ⊎_elim (λ was. all j v was)
           (λ (same : w ≡ v). subst (SeatHolds n d' r.writer s.words j) same (subst (λ (z : WriterState). MarkerHolds n d'.loans d'.lent d'.phase d'.plan d'.published s.words (marker_for g from to z)) (sym mine.1) new))
@@ -223,12 +196,7 @@ lends n id g from to d s r at =
     }
   where
     number_below : (j : ℕ) (v : Role) → SeatHolds n r.state r.writer s.words j v → (k : ℕ) → number_of v ≡ Some k → k < r.state.lent
-    number_below j Spent h k is = cc
-    number_below j (Writes c) h k is = cc
-    number_below j (Marks a) h k is = let same : a.loan.number ≡ k = cc in let lt = h.number_in in omega (arith, same, lt)
-    number_below j (Reads vertices seen made) h k is = cc
-    number_below j (Looks q) h k is = cc
-    number_below j (FoundBelow q) h k is = cc
+    number_below j v h k is = grind (arith, nat_tests)
 
     below : (j : ℕ) (v : Role) → get_elem? (set s.views id (Writes (with_loan g from to d))) j ≡ some v → (k : ℕ) → number_of v ≡ Some k → k < r.state.lent
     below = seats_stay (SeatHolds n r.state r.writer s.words) (λ j v. (k : ℕ) → number_of v ≡ Some k → k < r.state.lent) s.views id (Writes (with_loan g from to d)) (λ k h. let z : None ≡ Some k = h in cc) (λ j v o h. number_below j v h) r.seats
@@ -280,19 +248,18 @@ gives n id other d a s r at apart at' =
     let mine = r.seats id (Writes d) at in
     let w : Role = Writes (with_returned a d) in
     let d' : WriterState = with_returned a r.state in
-    let st = r.writes in
     let there : get_elem? s.views other ≡ some (Marks a) = ⊎_elim (λ (t : (other ≡ id) × (w ≡ Marks a)). absurd (apart t.0)) (λ (t : (other ≢ id) × (get_elem? s.views other ≡ some (Marks a))). t.1) (at_set s.views id other w (Marks a) at') in
     let theirs = r.seats other (Marks a) there in record {
       state = d';
       writer = r.writer;
       writes = record {
-        vertices_is = st.vertices_is;
-        phases_are = st.phases_are;
-        grown = st.grown;
-        facts = st.facts;
-        plan = st.plan;
-        marks = both_mark n (rest_of r.state) r.state.phase s.words r.state.noted r.state.marked r.state.cleared a.noted a.marked a.cleared st.marks theirs.marks;
-        begin = st.begin;
+        vertices_is = r.writes.vertices_is;
+        phases_are = r.writes.phases_are;
+        grown = r.writes.grown;
+        facts = r.writes.facts;
+        plan = r.writes.plan;
+        marks = both_mark n (rest_of r.state) r.state.phase s.words r.state.noted r.state.marked r.state.cleared a.noted a.marked a.cleared r.writes.marks theirs.marks;
+        begin = r.writes.begin;
       };
       seats = λ j v e. ⊎_elim (λ (t : (j ≡ other) × (Spent ≡ v)). subst (SeatHolds n d' r.writer s.words j) t.1 tt)
           (λ (t : (j ≢ other) × (get_elem? (set s.views id w) j ≡ some v)). ⊎_elim

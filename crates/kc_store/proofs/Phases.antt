@@ -3,6 +3,7 @@ use Rattle.std.proofs.Common.{◌≡◌, ◌≢◌, ℕ, ◌+◌, ◌*◌, ◌<�
 use Rattle.std.specs.List.{slice_get}
 use Rattle.std.proofs.lemmas.Option.{slice_get_within}
 use Rattle.std.proofs.Math.Seq.{drop-length}
+use Rattle.std.proofs.lemmas.Bool.Decides.{nat_tests}
 use mathlib.Core.Logic.{dite}
 use native.Mathlib.Decide.{ℕ_discrete}
 use Rattle.atomic_table.specs.Table.{step, keeps, Allows}
@@ -176,18 +177,16 @@ publishes_allowed n slots id l d e group named all none s r homes at bound = (
 waits_begun : (n : ℕ) (d : WriterState) (plan : PhasePlan) → d.vertices ≡ n → ((g : ℕ) → stamp_of 0 d.history g ≤ d.phase) → CanBegin d plan → AllWait n (d.phase + 1) d.history plan.groups
 waits_begun n d plan same below may = waits_all n (d.phase + 1) d.history plan.groups (λ k e is.
     let gr = may.formed.groups k e is in
-    let label_in = gr.label_in in
     let b = below gr.label in record {
       phase_is = gr.phase_is;
       label = gr.label;
       label_is = gr.label_is;
-      label_in = omega (arith, label_in, same);
+      label_in = omega (arith, gr.label_in, same);
       older = omega (arith, b);
       moves = λ v m found.
           let i = move_found v e.moves m found in
           let good = gr.moves i.0 m i.1 in
-          let inside = good.inside in
-          let there = i.2 in (omega (arith, inside, there, same), ap (level_of 0 d.history) (sym there) ∙ may.old k e i.0 m is i.1, good.differ);
+          let there = i.2 in (omega (arith, good.inside, there, same), ap (level_of 0 d.history) (sym there) ∙ may.old k e i.0 m is i.1, good.differ);
     })
 
 pub begins_allowed : (n slots id : ℕ) (d : WriterState) (plan : PhasePlan) → CanBegin d plan
@@ -218,9 +217,4 @@ begins_allowed n slots id d plan may s r homes at bound = (
     no_loan l on = let few : length d.loans ≡ 0 = ap (length {A = Loan}) may.none_out in let lt = on.1 in omega (arith, few, lt)
 
     others : (j : ℕ) (v : Role) → j ≢ r.writer → SeatHolds n d r.writer s.words j v → SeatHolds n (with_phase plan d) r.writer (set s.words 0 (d.phase + 1)) j v
-    others j Spent o k = tt
-    others j (Writes c) o k = absurd (o k.0)
-    others j (Marks m) o k = absurd (no_loan m.loan k.listed)
-    others j (Reads vertices seen made) o k = (k.0, before_more seen d.history plan.quiet k.1, k.2)
-    others j (Looks q) o k = begin_look n d.history plan.quiet plan.groups d.phase may.formed.no_label may.formed.no_moves s.words q (subst (λ (z : List Entry). LookHolds n d.history z d.phase s.words q) none k)
-    others j (FoundBelow q) o k = begin_below n d.history plan.quiet plan.groups d.phase may.formed.no_label may.formed.no_moves s.words q k
+    others j v o k = grind (arith, nat_tests, no_loan, before_more, begin_look, none, begin_below, may.formed.no_label, may.formed.no_moves, s.words)

@@ -63,8 +63,7 @@ group_label g [] f is = cc
 group_label g (e ∷ es) f is = grind (arith, nat_tests, group_label g es f)
 
 pub label_found : (g : ℕ) (l : Option ℕ) → is_label g l ≡ true → l ≡ Some g
-label_found g None t = cc
-label_found g (Some h) t = let e : h ≡ g = grind (arith, nat_tests, t) in ap Some e
+label_found g l t = grind (arith, nat_tests)
 
 -- whatever holds of each group of the rest holds of the one under a label
 pub waits_found : (n p : ℕ) (log : List Entry) (g : ℕ) (es : List Entry) (f : Entry) → AllWait n p log es → group_of g es ≡ Some f → Waits n p log f

@@ -43,9 +43,7 @@ module _ (n : ℕ) (log : List Entry) (e : Entry) (es : List Entry) (p : ℕ) (w
   fits_stay : (v : ℕ) (u : Mark) (o : ℕ) → ((g : ℕ) → stamp_of 0 log g ≤ p) → last_move v e.moves ≡ None → Fits n log (e ∷ es) p v u o → Fits n (log ++ e ∷ []) es p v u o
   fits_stay v u o below none f = record {
     label_in = f.label_in;
-    shown = λ le. level_stays log e v none ∙ dite (ℕ_discrete u.label w.label)
-        (λ same. dite (dec_le u.phase (stamp_of 0 log u.label)) (λ old. f.shown old) (λ late. absurd (no_move v u o none same (f.unpublished (lt_of_not-le late)))))
-        (λ other. f.shown (subst (λ (k : ℕ). u.phase ≤ k) (stamp_other log e u.label w.label w.label_is other) le));
+    shown = λ le. grind (arith, nat_tests, level_stays, no_move, lt_of_not-le, stamp_other, f.shown, f.unpublished);
     unpublished = λ lt. grind (arith, nat_tests, stamp_same, unpublished_on, stamp_other, f.unpublished);
   }
 
@@ -110,9 +108,7 @@ module _ (n : ℕ) (log : List Entry) (e : Entry) (es : List Entry) (p : ℕ) (w
   }
     where
       older : stamp_of 0 (log ++ e ∷ []) (unpacked q.word).label < (unpacked q.word).phase → stamp_of 0 log (unpacked q.word).label < (unpacked q.word).phase
-      older lt = dite (ℕ_discrete (unpacked q.word).label w.label)
-          (λ same. let s = stamp_same log e (unpacked q.word).label (w.label_is ∙ ap Some (sym same)) in let b = below (unpacked q.word).label in let k = w.phase_is in omega arith)
-          (λ other. let s = stamp_other log e (unpacked q.word).label w.label w.label_is other in omega arith)
+      older lt = grind (arith, nat_tests, stamp_same, stamp_other)
 
       kept_apart : (unpacked q.word).label ≢ w.label → Unpublished ws q → last_move q.vertex e.moves ≡ None
       kept_apart other y = (apart_found e (unpacked q.word).label es y.group apart (sym (group_past e es (unpacked q.word).label w.label w.label_is other) ∙ y.group_is)).vertices q.vertex y.move y.move_is

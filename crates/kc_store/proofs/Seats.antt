@@ -29,8 +29,7 @@ all_longer log e (k ∷ ks) h = (before_more k log e h.0, all_longer log e ks h.
 
 pub seats_stay : (K K' : ℕ → Role → Type 0) (vs : List Role) (me : ℕ) (w : Role) → K' me w → ((j : ℕ) (v : Role) → j ≢ me → K j v → K' j v)
     → ((j : ℕ) (v : Role) → get_elem? vs j ≡ some v → K j v) → (j : ℕ) (v : Role) → get_elem? (set vs me w) j ≡ some v → K' j v
-seats_stay K K' vs me w mine others all j v e = ⊎_elim (λ (t : (j ≡ me) × (w ≡ v)). subst (λ (x : ℕ × Role). K' x.0 x.1) (λ i. (sym t.0 i, t.1 i)) mine)
-    (λ (t : (j ≢ me) × (get_elem? vs j ≡ some v)). others j v t.0 (all j v t.1)) (at_set vs me j w v e)
+seats_stay K K' vs me w mine others all j v e = grind (arith, nat_tests, ⊎_elim, at_set)
 
 pub own_set : (vs : List Role) (id : ℕ) (v w : Role) → get_elem? vs id ≡ some v → ((k : ℕ) → number_of w ≡ Some k → number_of v ≡ Some k) → AreOwnLoans vs → AreOwnLoans (set vs id w)
 own_set vs id v w at same all i j k a b ai bj na nb = grind (arith, nat_tests, ⊎_elim, at_set)
@@ -233,28 +232,13 @@ module _ (n : ℕ) (d : WriterState) (writer : ℕ) (ws : List ℕ) (v o : ℕ) 
 -- what the other seats know doesn't hang on what the writer noted, marked or cleared
 module _ (n : ℕ) (d : WriterState) (v writer : ℕ) (ws : List ℕ) where
   others_noted : (j : ℕ) (x : Role) → j ≢ writer → SeatHolds n d writer ws j x → SeatHolds n (with_noted v d) writer ws j x
-  others_noted j Spent o k = tt
-  others_noted j (Writes c) o k = absurd (o k.0)
-  others_noted j (Marks m) o k = k
-  others_noted j (Reads vertices seen made) o k = k
-  others_noted j (Looks q) o k = k
-  others_noted j (FoundBelow q) o k = k
+  others_noted j x o k = grind (arith, nat_tests)
 
   others_marked : (j : ℕ) (x : Role) → j ≢ writer → SeatHolds n d writer ws j x → SeatHolds n (with_mark v d) writer ws j x
-  others_marked j Spent o k = tt
-  others_marked j (Writes c) o k = absurd (o k.0)
-  others_marked j (Marks m) o k = k
-  others_marked j (Reads vertices seen made) o k = k
-  others_marked j (Looks q) o k = k
-  others_marked j (FoundBelow q) o k = k
+  others_marked j x o k = grind (arith, nat_tests)
 
   others_cleared : (j : ℕ) (x : Role) → j ≢ writer → SeatHolds n d writer ws j x → SeatHolds n (with_cleared v d) writer ws j x
-  others_cleared j Spent o k = tt
-  others_cleared j (Writes c) o k = absurd (o k.0)
-  others_cleared j (Marks m) o k = k
-  others_cleared j (Reads vertices seen made) o k = k
-  others_cleared j (Looks q) o k = k
-  others_cleared j (FoundBelow q) o k = k
+  others_cleared j x o k = grind (arith, nat_tests)
 
 pub pred_is : (v : ℕ) → pred (v + 1) ≡ v
 pred_is v = omega arith

@@ -22,9 +22,7 @@ use Rattle.kc_store.proofs.Growth.{take_more}
 
 -- the vertices of a marker's moves: none at first, then one more, and each of them
 lent_no_more : (m : MarkerState) (vs : List ℕ) → vs ≡ vs ++ lent_vertices m.loan.from m
-lent_no_more m vs =
-    let none : m.loan.from - m.loan.from ≡ 0 = omega arith in
-    sym (append-nil vs) ∙ ap (λ k. vs ++ map (vertex_at m.plan m.loan.group) (range_with_len m.loan.from k)) (sym none)
+lent_no_more m vs = grind (arith, nat_tests, append-nil)
 
 lent_one_more : (i : ℕ) (m : MarkerState) → m.loan.from ≤ i → (vs : List ℕ) → (vs ++ lent_vertices i m) ++ vertex_at m.plan m.loan.group i ∷ [] ≡ vs ++ lent_vertices (i + 1) m
 lent_one_more i m le vs =

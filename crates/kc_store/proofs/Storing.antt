@@ -32,10 +32,7 @@ same_group v g h (x ∷ xs) e f m k apart ge hf me kf = go (is_label g x.label) 
     clash i y a b is by ax = let none : last_move v x.moves ≡ None = (apart_found x i xs y apart.0 is).vertices v b by in let s : None ≡ Some a = sym none ∙ ax in cc
 
     go : (b c : Bool) → is_label g x.label ≡ b → is_label h x.label ≡ c → (group_of g xs ≡ Some e → group_of h xs ≡ Some f → e ≡ f) → e ≡ f
-    go true true t u on = sym (here g e t ge) ∙ here h f u hf
-    go true false t u on = clash h f m k (past h f u hf) kf (subst (λ (y : Entry). last_move v y.moves ≡ Some m) (sym (here g e t ge)) me)
-    go false true t u on = clash g e k m (past g e t ge) me (subst (λ (y : Entry). last_move v y.moves ≡ Some k) (sym (here h f u hf)) kf)
-    go false false t u on = on (past g e t ge) (past h f u hf)
+    go b c t u on = grind (arith, nat_tests, here, clash, past)
 
 -- the mark of a move of a group that is not published yet may be stored where its old level is
 pub sound_mark : (n : ℕ) (log rest : List Entry) (p : ℕ) (ws : List ℕ) (v g o : ℕ) (e : Entry) (m : Move) → Facts n log rest p ws → group_of g rest ≡ Some e → last_move v e.moves ≡ Some m → o ≡ m.old → IsSoundMark n log rest p v (packed m.new g p) o
@@ -97,9 +94,7 @@ module _ (n : ℕ) (log rest : List Entry) (p : ℕ) (ws : List ℕ) (v k : ℕ)
     phase_in = f.phase_in;
     stamps = record { words = λ j lt. get_or-set_other ws (v + 1) (n + 1 + j) k 0 (λ x. omega arith) ∙ f.stamps.words j lt; below = f.stamps.below };
     groups = f.groups;
-    vertices = λ x lt. subst (λ (z : ℕ). Fits n log rest p x (unpacked (get_or marked (x + 1) 0)) z) (sym (old_stays x)) (dite (ℕ_discrete x v)
-        (λ s. subst (λ (y : ℕ). Fits n log rest p y (unpacked (get_or marked (y + 1) 0)) (get_or ws (2 * n + 1 + y) 0)) (sym s) (subst (λ (z : ℕ). Fits n log rest p v (unpacked z) (get_or ws (2 * n + 1 + v) 0)) (sym here) sound.fits))
-        (λ o. subst (λ (z : ℕ). Fits n log rest p x (unpacked z) (get_or ws (2 * n + 1 + x) 0)) (sym (else_where x o)) (f.vertices x lt)));
+    vertices = λ x lt. grind (arith, nat_tests, old_stays, here, else_where, sound.fits, f.vertices);
     olds = λ x lt. subst (λ (z : ℕ). z < 2 ^ 16) (sym (old_stays x)) (f.olds x lt);
   }
 
@@ -110,9 +105,7 @@ module _ (n : ℕ) (log rest : List Entry) (p : ℕ) (ws : List ℕ) (v k : ℕ)
   marked_here = subst (IsMarked rest p v) (sym here) sound.marked
 
   mark_marks : (vs : List ℕ) → AllMarked rest p ws vs → AllMarked rest p marked vs
-  mark_marks vs all x on = dite (ℕ_discrete x v)
-      (λ s. subst (λ (y : ℕ). IsMarked rest p y (get_or marked (y + 1) 0)) (sym s) marked_here)
-      (λ o. subst (IsMarked rest p x) (sym (else_where x o)) (all x on))
+  mark_marks vs all x on = grind (arith, nat_tests, marked_here, else_where)
 
   mark_more : (vs : List ℕ) → AllMarked rest p ws vs → AllMarked rest p marked (vs ++ v ∷ [])
   mark_more vs all x on = ⊎_elim (λ (t : Contains vs x). mark_marks vs all x t) (λ (s : v ≡ x). subst (λ (y : ℕ). IsMarked rest p y (get_or marked (y + 1) 0)) s marked_here) (Contains-push_cases vs v x on)
@@ -183,9 +176,7 @@ module _ (n : ℕ) (log rest : List Entry) (p : ℕ) (ws : List ℕ) (v o : ℕ)
     move_is = y.move_is;
     new_is = y.new_is;
     level_is = y.level_is;
-    old_is = dite (ℕ_discrete x v)
-        (λ s. ap (λ (z : ℕ). get_or noted (2 * n + 1 + z) 0) s ∙ (old_here ∙ (sym sound.level_is ∙ (ap (level_of 0 log) (sym s) ∙ y.level_is))))
-        (λ other. old_else x other ∙ y.old_is);
+    old_is = grind (arith, nat_tests, old_here, old_else, sound.level_is, y.level_is, y.old_is);
   }
 
   pub note_facts : Facts n log rest p noted
@@ -197,9 +188,7 @@ module _ (n : ℕ) (log rest : List Entry) (p : ℕ) (ws : List ℕ) (v o : ℕ)
     stamps = record { words = λ j lt. get_or-set_other ws (2 * n + 1 + v) (n + 1 + j) o 0 (λ x. omega (arith, x, lt)) ∙ f.stamps.words j lt; below = f.stamps.below };
     groups = f.groups;
     vertices = λ x lt. grind (arith, nat_tests, mark_stays, unpublished_at);
-    olds = λ x lt. dite (ℕ_discrete x v)
-        (λ s. subst (λ (y : ℕ). get_or noted (2 * n + 1 + y) 0 < 2 ^ 16) (sym s) (subst (λ (z : ℕ). z < 2 ^ 16) (sym old_here) sound.short))
-        (λ other. subst (λ (z : ℕ). z < 2 ^ 16) (sym (old_else x other)) (f.olds x lt));
+    olds = λ x lt. grind (arith, nat_tests, old_here, old_else, sound.short);
   }
 
   noted_here : IsNoted rest v (get_or noted (2 * n + 1 + v) 0)
@@ -244,7 +233,5 @@ module _ (n : ℕ) (log rest : List Entry) (p : ℕ) (ws : List ℕ) (v o : ℕ)
   pub note_below : (q : Pending) → BelowHolds n log ws q → BelowHolds n log noted q
   note_below q h = record {
     reading = h.reading;
-    old = dite (ℕ_discrete q.vertex v)
-        (λ s. record { point = log; after = h.reading.from_in; within = before_itself log; level_is = ap (level_of 0 log) s ∙ (sound.level_is ∙ (sym old_here ∙ ap (λ (z : ℕ). get_or noted (2 * n + 1 + z) 0) (sym s))) })
-        (λ other. subst (Reaches q.from log q.vertex) (sym (old_else q.vertex other)) h.old);
+    old = grind (arith, nat_tests, before_itself, old_here, old_else, h.reading.from_in, sound.level_is, h.old);
   }

@@ -35,15 +35,11 @@ same_vertices n k words a b = omega (arith, a, b)
 
 pub writer_went : (f : WriterState → WriterState) (old new : Seat ℕ Role) (shape : WriterShape) → IsWriter old → writer_shape old ≡ shape → new.table_id ≡ old.table_id → new.me ≡ (at_writer f old.me.0, old.me.1)
     → writer_shape new ≡ record { table = shape.table; state = f shape.state }
-writer_went f old new shape is view table me =
-    let after = after_writer f old.me new.me is.me_is me in
-    λ i. record { table = (table ∙ ap (λ z. z.table) view) i; state = (after.1 ∙ ap (λ z. f z.state) view) i }
+writer_went f old new shape is view table me = grind (arith, nat_tests, after_writer, is.me_is)
 
 pub marker_went : (f : MarkerState → MarkerState) (old new : Seat ℕ Role) (shape : MarkerShape) → IsMarker old → marker_shape old ≡ shape → new.table_id ≡ old.table_id → new.me ≡ (at_marker f old.me.0, old.me.1)
     → marker_shape new ≡ record { table = shape.table; state = f shape.state }
-marker_went f old new shape is view table me =
-    let after = after_marker f old.me new.me is.me_is me in
-    λ i. record { table = (table ∙ ap (λ z. z.table) view) i; state = (after.1 ∙ ap (λ z. f z.state) view) i }
+marker_went f old new shape is view table me = grind (arith, nat_tests, after_marker, is.me_is)
 
 -- a cleared move
 pub writer_cleared : (old new : Seat ℕ Role) (shape : WriterShape) (v w : ℕ) → IsWriter old → writer_shape old ≡ shape → new.table_id ≡ old.table_id → new.me ≡ (at_writer (with_cleared (marked_at (v + 1))) old.me.0, old.me.1) → v ≡ w

@@ -24,14 +24,12 @@ store-requires c =
     let a = markers_move _ _ _ _ c.self.invariant.0 c.self.view_is c.requires.plan c.requires.range.1 in
     let m = c.move_at-label.ensures a.group a.move (subst (λ (k : ℕ). IsMoveAt c.args.plan.now k c.args.i a.group a.move) (sym c.self.invariant.1) a.at) in
     let vertex = ap (λ (m : Move). m.vertex) m.0 in
-    let inside = a.inside in
-    let sized = c.self.invariant.0.sized in
     let plan = c.requires.plan ∙ ap (λ z. z.state.plan) (sym c.self.view_is) in
     let table : c.self.inside.seat.table_id ≡ c.store.inside.table.shared.table_id = search rules in
     let words = ap (λ z. z.words) table in
     let size = c.store.invariant.1 in (
       table,
-      omega (arith, inside, vertex, sized, words, size),
+      omega (arith, a.inside, vertex, c.self.invariant.0.sized, words, size),
       lent_clears_from _ c.store.inside.n _ _ _ _ c.args.i _ a.group a.move c.store.invariant.0 c.self.invariant.0.me_is (ap (λ z. z.state.loan.published) c.self.view_is ∙ c.requires.late)
           (subst (λ (p : PhasePlan). IsMoveAt p (marker_of c.self.inside.seat.me.0).loan.group c.args.i a.group a.move) plan a.at) vertex (c.pack.ensures ∙ ap (λ (m : Move). packed m.new 0 0) m.0),
     )

@@ -18,20 +18,17 @@ loop-i-init c =
 pub loop-i-preserved : goal.loop-i-preserved
 loop-i-preserved c =
     let inv = c.loop-i.invariant in
-    let later = inv.2 in
     let end = ap (λ (z : ℕ × ℕ). z.1) c.range-from.ensures in
     let inside = c.loop-i-test.true in (
       ap (λ z. z.table) c.clear.ensures ∙ inv.0,
-      lent_more_cleared c.loop-i.i c.args.self.now.state c.loop-i.self.state _ later inv.1
+      lent_more_cleared c.loop-i.i c.args.self.now.state c.loop-i.self.state _ inv.2 inv.1
           (ap (λ z. z.state) c.clear.ensures ∙ (λ j. marker_cleared (vertex_at (c.requires.plan j) (ap (λ (m : MarkerState). m.loan.group) inv.1 j) c.loop-i.i) c.loop-i.self.state)),
-      omega (arith, later),
-      omega (arith, later, end, inside),
+      omega (arith, inv.2),
+      omega (arith, inv.2, end, inside),
     )
 
 pub returns-clause-cleared : goal.returns-clause-cleared
 returns-clause-cleared c =
     let inv = c.loop-i.invariant in
     let end = ap (λ (z : ℕ × ℕ). z.1) c.range-from.ensures in
-    let done = c.loop-i-test.false in
-    let few = inv.3 in
-    lent_end_cleared _ _ _ _ (omega (arith, end, done, few)) inv.1
+    lent_end_cleared _ _ _ _ (omega (arith, end, c.loop-i-test.false, inv.3)) inv.1

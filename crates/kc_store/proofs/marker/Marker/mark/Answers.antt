@@ -27,17 +27,14 @@ store-requires c =
     let m = c.move_at-label.ensures a.group a.move (subst (λ (k : ℕ). IsMoveAt c.args.plan.now k c.args.i a.group a.move) (sym c.self.invariant.1) a.at) in
     let vertex = ap (λ (m : Move). m.vertex) m.0 in
     let old = ap (λ (m : Move). m.old) m.0 in
-    let short = c.word_of-old.ensures.short in
-    let inside = a.inside in
-    let sized = c.self.invariant.0.sized in
     let plan = c.requires.plan ∙ ap (λ z. z.state.plan) (sym c.self.view_is) in
     let table : c.self.inside.seat.table_id ≡ c.store.inside.table.shared.table_id = search rules in
     let words = ap (λ z. z.words) table in
     let size = c.store.invariant.1 in (
       table,
-      omega (arith, inside, vertex, sized, words, size),
+      omega (arith, a.inside, vertex, c.self.invariant.0.sized, words, size),
       lent_notes_from _ c.store.inside.n _ _ _ _ c.move_at-label.result.0.vertex c.args.i a.label _ a.group a.move c.store.invariant.0 c.self.invariant.0.me_is (ap (λ z. z.state.loan.published) c.self.view_is ∙ c.requires.early)
-          (subst (λ (p : PhasePlan). IsMoveAt p (marker_of c.self.inside.seat.me.0).loan.group c.args.i a.group a.move) plan a.at) a.label_is (subst (λ k. k < 2 ^ 16) old short) vertex refl (c.word_of-old.ensures.value ∙ old),
+          (subst (λ (p : PhasePlan). IsMoveAt p (marker_of c.self.inside.seat.me.0).loan.group c.args.i a.group a.move) plan a.at) a.label_is (subst (λ k. k < 2 ^ 16) old c.word_of-old.ensures.short) vertex refl (c.word_of-old.ensures.value ∙ old),
     )
 
 pub pack-requires-clause-label : goal.pack-requires-clause-label
@@ -58,7 +55,6 @@ store-requires-2 c =
     let m = c.move_at-label.ensures a.group a.move (subst (λ (k : ℕ). IsMoveAt c.args.plan.now k c.args.i a.group a.move) (sym c.self.invariant.1) a.at) in
     let vertex = ap (λ (m : Move). m.vertex) m.0 in
     let label = label_same _ _ (sym a.label_is ∙ m.1) in
-    let inside = a.inside in
     let sized = c.self.invariant.0.sized in
     let plan = c.requires.plan ∙ ap (λ z. z.state.plan) (sym c.self.view_is) in
     let table : c.self.inside.seat.table_id ≡ c.store.inside.table.shared.table_id = search rules in
@@ -66,7 +62,7 @@ store-requires-2 c =
     let size = c.store.invariant.1 in
     let phase = c.phase_of.ensures ∙ (ap (λ (p : PhasePlan). p.quiet.phase) plan ∙ c.self.invariant.0.formed.phase_is) in (
       c.store-2.ensures.0 ∙ table,
-      omega (arith, inside, vertex, sized, words, size),
+      omega (arith, a.inside, vertex, sized, words, size),
       lent_marks_after _ c.store.inside.n _ _ _ _ c.args.i a.label _ c.self.inside.seat.me _ a.group a.move c.store.invariant.0 c.self.invariant.0.me_is
           (same_vertices _ _ _ (sym words ∙ sized) size) c.store-2.ensures.2 refl (ap (λ z. z.state.loan.published) c.self.view_is ∙ c.requires.early)
           (subst (λ (p : PhasePlan). IsMoveAt p (marker_of c.self.inside.seat.me.0).loan.group c.args.i a.group a.move) plan a.at) a.label_is vertex (c.pack.ensures ∙ (λ i. packed (m.0 i).new (sym label i) (phase i))),

@@ -34,10 +34,9 @@ load-stamp-requires c =
     let some : (unpacked c.load.result).phase ≢ 0 = (λ s. c.if-mark-eq0.false (ap (λ (m : Mark). m.phase) u ∙ s)) in
     let left = first_left 0 c.args.v c.load.result _ _ c.pass.invariant.me_is c.load.ensures.2 some in
     let label : c.unpack-mark.result.label ≡ (unpacked c.load.result).label = ap (λ (m : Mark). m.label) u in
-    let small = c.load.ensures.2.0 in
     let size = c.self.invariant.1 in (
       c.load.ensures.0 ∙ table,
-      omega (arith, label, small, size, vertices),
+      omega (arith, label, c.load.ensures.2.0, size, vertices),
       second_from _ c.self.inside.n _ _ c.args.v c.load.result _ c.pass.inside.seat.me _ left.0 c.self.invariant.0 left.1 (ap (λ (k : ℕ). c.self.inside.n + 1 + k) label),
     )
 
@@ -58,8 +57,7 @@ load-requires-2 c =
     let some : (unpacked c.load.result).phase ≢ 0 = (λ s. c.if-mark-eq0.false (ap (λ (m : Mark). m.phase) u ∙ s)) in
     let left = first_left 0 c.args.v c.load.result _ _ c.pass.invariant.me_is c.load.ensures.2 some in
     let phase = c.from.ensures ∙ ap (λ (m : Mark). m.phase) u in
-    let not = c.if-from-stamp.false in
-    let lt : c.load-stamp.result < (unpacked c.load.result).phase = omega (arith, phase, not) in
+    let lt : c.load-stamp.result < (unpacked c.load.result).phase = omega (arith, phase, c.if-from-stamp.false) in
     let below = second_left 0 0 c.args.v c.load.result c.load-stamp.result c.pass.inside.seat.me _ _ left.0 left.1 c.load-stamp.ensures.2 lt in
     let inside : c.args.v < c.self.inside.n = subst (λ k. c.args.v < k) (ap (λ z. z.vertices) (sym c.self.view_is)) c.requires.vertex in
     let size = c.self.invariant.1 in (
@@ -74,8 +72,7 @@ returns-clause-level c =
     let some : (unpacked c.load.result).phase ≢ 0 = (λ s. c.if-mark-eq0.false (ap (λ (m : Mark). m.phase) u ∙ s)) in
     let left = first_left 0 c.args.v c.load.result _ _ c.pass.invariant.me_is c.load.ensures.2 some in
     let phase = c.from.ensures ∙ ap (λ (m : Mark). m.phase) u in
-    let not = c.if-from-stamp.false in
-    let lt : c.load-stamp.result < (unpacked c.load.result).phase = omega (arith, phase, not) in
+    let lt : c.load-stamp.result < (unpacked c.load.result).phase = omega (arith, phase, c.if-from-stamp.false) in
     let below = second_left 0 0 c.args.v c.load.result c.load-stamp.result c.pass.inside.seat.me _ _ left.0 left.1 c.load-stamp.ensures.2 lt in
     let h = third_done 0 0 c.args.v c.load.result c.load-2.result c.pass.inside.seat.me _ _ left.0 below c.load-2.ensures.2 in
     read_level c.args.self.now.vertices _ _ c.args.v _ _ c.requires.vertex h.1 refl

@@ -18,13 +18,11 @@ store-requires c =
     let a = writers_move _ _ _ _ _ c.self.invariant c.self.view_is c.requires.plan c.requires.place in
     let same = (c.move_at-label.ensures a.group a.move a.at).0 in
     let vertex = ap (λ (m : Move). m.vertex) same in
-    let inside = a.inside in
-    let sized = c.self.invariant.sized in
     let plan = c.requires.plan ∙ ap (λ z. z.state.plan) (sym c.self.view_is) in
     let table : c.self.inside.seat.table_id ≡ c.store.inside.table.shared.table_id = search rules in
     let words = ap (λ z. z.words) table in (
       table,
-      omega (arith, inside, vertex, sized, words),
+      omega (arith, a.inside, vertex, c.self.invariant.sized, words),
       clears_from _ c.store.inside.n _ _ _ _ c.args.g c.args.i _ a.group a.move c.store.invariant.0 c.self.invariant.me_is (subst (λ k. c.args.g < k) (ap (λ z. z.state.published) (sym c.self.view_is)) c.requires.late)
           (subst (λ (p : PhasePlan). IsMoveAt p c.args.g c.args.i a.group a.move) plan a.at) vertex (c.pack.ensures ∙ ap (λ (m : Move). packed m.new 0 0) same),
     )

@@ -21,18 +21,15 @@ store-requires c =
     let m = c.move_at-label.ensures a.group a.move a.at in
     let vertex = ap (λ (m : Move). m.vertex) m.0 in
     let old = ap (λ (m : Move). m.old) m.0 in
-    let short = c.word_of-old.ensures.short in
-    let inside = a.inside in
-    let sized = c.self.invariant.sized in
     let plan = c.requires.plan ∙ ap (λ z. z.state.plan) (sym c.self.view_is) in
     let table : c.self.inside.seat.table_id ≡ c.store.inside.table.shared.table_id = search rules in
     let words = ap (λ z. z.words) table in
     let size = c.store.invariant.1 in (
       table,
-      omega (arith, inside, vertex, sized, words, size),
+      omega (arith, a.inside, vertex, c.self.invariant.sized, words, size),
       notes_from _ c.store.inside.n _ _ _ _ c.move_at-label.result.0.vertex c.args.g c.args.i a.label _ a.group a.move c.store.invariant.0 c.self.invariant.me_is
           (subst (λ k. k ≤ c.args.g) (ap (λ z. z.state.published) (sym c.self.view_is)) c.requires.early)
-          (subst (λ (p : PhasePlan). IsMoveAt p c.args.g c.args.i a.group a.move) plan a.at) a.label_is (subst (λ k. k < 2 ^ 16) old short) vertex refl (c.word_of-old.ensures.value ∙ old),
+          (subst (λ (p : PhasePlan). IsMoveAt p c.args.g c.args.i a.group a.move) plan a.at) a.label_is (subst (λ k. k < 2 ^ 16) old c.word_of-old.ensures.short) vertex refl (c.word_of-old.ensures.value ∙ old),
     )
 
 pub pack-requires-clause-label : goal.pack-requires-clause-label
@@ -52,7 +49,6 @@ store-requires-2 c =
     let m = c.move_at-label.ensures a.group a.move a.at in
     let vertex = ap (λ (m : Move). m.vertex) m.0 in
     let label = label_same _ _ (sym a.label_is ∙ m.1) in
-    let inside = a.inside in
     let sized = c.self.invariant.sized in
     let plan = c.requires.plan ∙ ap (λ z. z.state.plan) (sym c.self.view_is) in
     let phase = c.phase_of.ensures ∙ (ap (λ (p : PhasePlan). p.quiet.phase) plan ∙ c.self.invariant.formed.phase_is) in
@@ -60,7 +56,7 @@ store-requires-2 c =
     let words = ap (λ z. z.words) table in
     let size = c.store.invariant.1 in (
       c.store-2.ensures.0 ∙ table,
-      omega (arith, inside, vertex, sized, words, size),
+      omega (arith, a.inside, vertex, sized, words, size),
       marks_after _ c.store.inside.n _ _ _ _ c.args.g c.args.i a.label _ c.self.inside.seat.me _ a.group a.move c.store.invariant.0 c.self.invariant.me_is
           (same_vertices _ _ _ (sym words ∙ sized) size) c.store-2.ensures.2 refl
           (subst (λ k. k ≤ c.args.g) (ap (λ z. z.state.published) (sym c.self.view_is)) c.requires.early)
