@@ -18,12 +18,11 @@ pub loop-first-preserved : goal.loop-first-preserved
 loop-first-preserved c =
     let g = c.args.graph.now in
     let i = c.loop-first.first in
-    let v = c.take_next-taken.result.vertex in
     let lt : i < g.vertices = omega (arith, c.vertices-n.ensures.count) in
     let compared = walk_compared g i _ _ _ c.loop-first.densest (record { first = i; edges = c.loop-first.edges }) lt refl refl c.loop-first.invariant in
     let denser = rw c.vertices-n.ensures.count at c.denser-densest.ensures in
     rw (c.in_ok-push.ensures.items, c.take_next-taken.ensures.degree, denser)
-    (walk_taken g i (i + 1) _ c.take_next-taken.new.degrees _ _ _ v c.vertices-n.ensures.graph compared c.take_next-taken.ensures.next c.take_next-taken.ensures.others c.take_next-taken.ensures.remaining (omega arith))
+    (walk_taken g i (i + 1) _ c.take_next-taken.new.degrees _ _ _ c.take_next-taken.result.vertex c.vertices-n.ensures.graph compared c.take_next-taken.ensures.next c.take_next-taken.ensures.others c.take_next-taken.ensures.remaining (omega arith))
 
 ends : (c : goal.After-drop-degrees-inside-2) → IsWalk c.args.graph.now c.args.graph.now.vertices c.args.graph.now.vertices c.loop-first.degrees c.loop-first.order.items c.loop-first.edges c.loop-first.densest
 ends c =

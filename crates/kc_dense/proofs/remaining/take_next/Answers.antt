@@ -30,14 +30,13 @@ lower-requires-clause-some c =
 pub loop-u-preserved : goal.loop-u-preserved
 loop-u-preserved c =
     let g = c.args.graph.now in
-    let v = c.first_least-vertex.result in
     let items = c.neighbours-u-items.result.now in
     let i = c.loop-u.u-index in
     let w = get_or items i 0 in
     let below : w < g.vertices = All-get_or (λ u. u < g.vertices) items i 0 c.loop-u-test.true c.neighbours-u-items.ensures.below in
     let seen : take (i + 1) items ≡ take i items ++ (w ∷ []) = rw add-one (take-suc items i 0 c.loop-u-test.true) in
     rw (seen, c.lower.ensures)
-    (falling_more c.args.degrees.now v (take i items) c.loop-u.degrees w c.loop-u.invariant
+    (falling_more c.args.degrees.now c.first_least-vertex.result (take i items) c.loop-u.degrees w c.loop-u.invariant
     (rising_new 0 items i c.neighbours-u-items.ensures.ascending c.loop-u-test.true) (omega (arith, below, c.loop-u.invariant.sized, c.requires.remaining.sized)))
 
 pub returns-clause-next : goal.returns-clause-next
