@@ -14,8 +14,8 @@ use std::thread::Threads;
 // about 200 microseconds. To start two threads takes 30 to 40.
 const LEAST_COUNTED: u32 = 32_768;
 
-/// Returns whether the list has half as many edges as the graph has vertices, and as many as the graph has edges. Then
-/// it takes less time to make all counts afresh than to change them at each edge of the list.
+/// Returns whether the list has half as many edges as the graph has vertices or more, and no fewer than the graph has
+/// edges. Then it takes less time to make all counts afresh than to change them at each edge of the list.
 pub fn are_many(edges: &[Edge], graph: &Graph) -> bool {
     graph.vertices() as usize / 2 <= edges.len() && graph.edge_count() as usize <= edges.len()
 }

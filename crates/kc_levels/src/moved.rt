@@ -1,7 +1,8 @@
 //! The vertices whose level differs in two lists, and the moves that lead from one list to the other.
 ghost use Rattle.std.specs.Prelude.{◌≡◌, ◌<◌, ◌≤◌, ℕ, true, IfOk, length, map};
+ghost use Rattle.std.specs.Bool.{OnTrue};
 ghost use Rattle.kc_graph.specs.Numbers.{has_number, RisesFrom};
-ghost use Rattle.kc_levels.specs.Moved.{is_moved, moved_count, move_of, moves_between};
+ghost use Rattle.kc_levels.specs.Moved.{is_moved, moved_below, moved_count, move_of, moves_between};
 ghost use Rattle.kc_levels.specs.Following.{AreDistinct};
 
 use crate::{Levels, Move, Moves};
@@ -25,12 +26,54 @@ pub fn moved_count(before: &Levels, after: &Levels) -> u32
     count
 }
 
-// Puts the vertices in ascending order. No vertex is there twice.
-fn sort(alloc: Global, vertices: &mut Vec<u32>)
-    requires { AreDistinct vertices.old.items }
+// If at least a quarter of the vertices moved, they are listed by a pass over all levels. That takes 2 to 4 nanoseconds
+// a level, and a sort by digits about 8 a vertex of the list.
+const MOST_LEVELS: usize = 4;
+
+// Returns whether a pass over all levels takes less time than a sort of the vertices that moved.
+fn are_dense(count: usize, levels: usize) -> bool
+    ensures { OnTrue result (levels ≤ MAX_VERTICES) }
+{
+    levels <= MAX_VERTICES as usize && levels / MOST_LEVELS <= count
+}
+
+// Returns the vertices whose level differs, ascending. One pass over the levels. Fails only if memory runs out.
+fn list_moved(
+    alloc: Global,
+    before: &Levels,
+    after: &Levels,
+    count: usize,
+) -> Result<Vec<u32>, AllocError>
+    requires sized { length after.now ≡ length before.now }
+    requires small { length before.now ≤ MAX_VERTICES }
+    ensures { IfOk result (λ vs. vs.items ≡ moved_below (is_moved before.now after.now) (length before.now)) }
+{
+    let before = before.as_slice();
+    let after = after.as_slice();
+    let mut moved = Vec::with_capacity(alloc, count)?;
+    for v in 0..before.len() {
+        let (old, new) = (before[v], after[v]);
+        if old != new {
+            moved.push(v as u32)?;
+        }
+    }
+    Ok(moved)
+}
+
+// Puts the vertices whose level differs in ascending order. Each is there once.
+fn sort(alloc: Global, before: &Levels, after: &Levels, vertices: &mut Vec<u32>)
+    requires sized { length after.now ≡ length before.now }
+    requires moved { (v : ℕ) → has_number v vertices.old.items ≡ is_moved before.now after.now v }
+    requires once { AreDistinct vertices.old.items }
     ensures rises { RisesFrom 0 vertices.new.items }
     ensures same { (v : ℕ) → has_number v vertices.new.items ≡ has_number v vertices.old.items }
 {
+    if are_dense(vertices.len(), before.as_slice().len()) && !vertices.is_sorted() {
+        if let Ok(moved) = list_moved(alloc, before, after, vertices.len()) {
+            *vertices = moved;
+            return;
+        }
+    }
     sort_numbers(alloc, vertices);
 }
 
@@ -59,8 +102,9 @@ fn moves_in_order(
 /// Returns the moves from one list of levels to another, ascending by vertex (`moves_between`). `vertices` has each
 /// vertex whose level differs, once and in any order; afterwards they are in ascending order.
 ///
-/// Costs a sort of the vertices (`sort_numbers`), and no pass over the levels. Takes memory for the moves, and before
-/// them for the sort. Fails only if memory runs out.
+/// Costs a sort of the vertices (`sort_numbers`). If they are a quarter of all or more, and not yet in order, it costs
+/// one pass over the levels instead. Takes memory for the moves, and before them for the sort or the pass. Fails only
+/// if memory runs out.
 pub fn moves_of(
     alloc: Global,
     before: &Levels,
@@ -74,6 +118,6 @@ pub fn moves_of(
     ensures ascending { RisesFrom 0 vertices.new.items }
     ensures same { (v : ℕ) → has_number v vertices.new.items ≡ has_number v vertices.old.items }
 {
-    sort(alloc, vertices);
+    sort(alloc, before, after, vertices);
     moves_in_order(alloc, before, after, vertices)
 }
