@@ -1,5 +1,5 @@
 -- Forests over the places of a list: a place that points further up, and trees that come together.
-use Rattle.std.proofs.Common.{ℕ, ◌+◌, ◌≤◌, ◌<◌, ◌≡◌, ◌≢◌, ◌⊎◌, inl, inr, Bool, true, false, ◌&&◌, ◌||◌, cond, eqb, max, min, List, [], ◌∷◌, length, get_or, set, map, zero, suc, refl, ap, sym, subst, ◌∙◌, arith}
+use Rattle.std.proofs.Common.{ℕ, ◌+◌, ◌≤◌, ◌<◌, ◌≡◌, ◌≢◌, ◌⊎◌, inl, inr, Bool, true, false, ◌&&◌, ◌||◌, cond, eqb, ltb, max, min, List, [], ◌∷◌, length, get_or, set, map, zero, suc, refl, ap, sym, subst, ◌∙◌, arith}
 use Rattle.std.proofs.lemmas.Bool.{cases_Bool, cases_eq, cases_lt, or_left}
 use Rattle.std.proofs.lemmas.Bool.Decides.{nat_tests}
 use Rattle.std.proofs.lemmas.List.{length-set, length-map, get_or-map, get_or-set_same, get_or-set_other}
@@ -261,3 +261,59 @@ module _ (m : ℕ) (before after : ℕ → ℕ → Bool) (parents : List ℕ) (g
               let second : j ≡ b = grind (arith, nat_tests, new_one) in
               inr (first, second)
         ]
+
+-- the links of before, and those of the first k places of a forest to their parents
+abbrev pub with_parents : (ℕ → ℕ → Bool) → List ℕ → ℕ → ℕ → ℕ → Bool
+with_parents before others k i j = before i j || (ltb i k && eqb (get_or others i 0) j)
+
+module _ (m : ℕ) (before : ℕ → ℕ → Bool) (others parents : List ℕ) where
+  pub parents_first : AreGathered m before parents → AreGathered m (with_parents before others 0) parents
+  parents_first a = gathered_same m before (with_parents before others 0) parents a (λ i j hi hj. grind (arith, nat_tests, common_steps))
+
+  pub parents_more : (k : ℕ) → k < m → get_or others k 0 < m → (a : AreGathered m (with_parents before others k) parents) (new : List ℕ) → length new ≡ length parents → IsForest new (merged k (get_or others k 0) a.roots) → AreGathered m (with_parents before others (k + 1)) new
+  parents_more k h low a new long f =
+      gathered_one m (with_parents before others k) (with_parents before others (k + 1)) parents a k (get_or others k 0) new h low (λ i j hi hj. grind (arith, nat_tests, common_steps)) long f
+
+  -- after all places of the forest, its links are there
+  pub parents_last : (linked : ℕ → ℕ → Bool) → AreGathered m linked others → AreGathered m (with_parents before others m) parents → AreGathered m (λ i j. before i j || linked i j) parents
+  parents_last linked o g = record {
+    roots = g.roots;
+    forest = g.forest;
+    sized = g.sized;
+    joined = λ i j hi hj e. elim (cases_Bool (before i j)) [
+      | inl old ↦ g.joined i j hi hj (or_left (before i j) (ltb i m && eqb (get_or others i 0) j) old)
+      | inr none ↦ up (i + 1) i (omega arith) hi ∙ ap (λ u. get_or g.roots u 0) (o.joined i j hi hj (later (before i j) (linked i j) none e)) ∙ sym (up (j + 1) j (omega arith) hj)
+    ];
+    sound = λ label one.
+        let same = o.sound label (λ i j hi hj e. one i j hi hj (right (before i j) (linked i j) e)) in
+        g.sound label (λ i j hi hj e. elim (cases_Bool (before i j)) [
+          | inl old ↦ one i j hi hj (or_left (before i j) (linked i j) old)
+          | inr none ↦
+              let parent : get_or others i 0 ≡ j = is_parent i j hi (later (before i j) (ltb i m && eqb (get_or others i 0) j) none e) in
+              sym (same i hi) ∙ ap label (sym (o.forest.same i (inside i hi))) ∙ ap (λ u. label (get_or o.roots u 0)) parent ∙ same j hj
+        ]);
+  }
+    where
+      later : (a b : Bool) → a ≡ false → (a || b) ≡ true → b ≡ true
+      later a b f t = grind (arith, nat_tests, f, t)
+
+      right : (a b : Bool) → b ≡ true → (a || b) ≡ true
+      right a b t = grind (arith, nat_tests, t)
+
+      is_parent : (i j : ℕ) → i < m → (ltb i m && eqb (get_or others i 0) j) ≡ true → get_or others i 0 ≡ j
+      is_parent i j h t = grind (arith, nat_tests, t)
+
+      inside : (i : ℕ) → i < m → i < length others
+      inside i h = omega (arith, o.sized, h)
+
+      -- a place and its root in the forest have one root
+      up : (k i : ℕ) → i < k → i < m → get_or g.roots i 0 ≡ get_or g.roots (get_or o.roots i 0) 0
+      up zero i lt h = absurd (omega (arith, lt))
+      up (suc k) i lt h = elim (cases_eq (get_or others i 0) i) [
+        | inl own ↦ ap (λ u. get_or g.roots u 0) (sym (o.forest.own i (inside i h) own))
+        | inr ne ↦
+            let low : get_or others i 0 < i = omega (arith, o.forest.up i (inside i h), ne) in
+            g.joined i (get_or others i 0) h (omega (arith, low, h)) (right (before i (get_or others i 0)) (ltb i m && eqb (get_or others i 0) (get_or others i 0)) (grind (arith, nat_tests, h)))
+            ∙ up k (get_or others i 0) (omega (arith, low, lt)) (omega (arith, low, h))
+            ∙ ap (λ u. get_or g.roots u 0) (o.forest.same i (inside i h))
+      ]

@@ -17,14 +17,14 @@ use Rattle.kc_groups.proofs.LabelLaw.{labels_exist, labels_joined}
 
 -- the links of the rows and of the phase's edges
 abbrev pub all_links : GraphShape → List Pair → List ℕ → ℕ → ℕ → ℕ → Bool
-all_links g edges vs m i j = in_rows g vs m i j || in_edges edges vs i j
+all_links g edges vs m i j = in_rows g vs 0 m i j || in_edges edges vs i j
 
 module _ (g : GraphShape) (edges : List Pair) (vs : List ℕ) where
   joined_all : (v w : ℕ) → joined v w (with_edges g edges).edges ≡ ((has_edge (v, w) edges || has_edge (v, w) g.edges) || (has_edge (w, v) edges || has_edge (w, v) g.edges))
   joined_all v w = rw (has_edge-with_edges (v, w) g edges, has_edge-with_edges (w, v) g edges) refl
 
   -- whether two movers are linked in the rows
-  near_is : (i j : ℕ) → i < length vs → in_rows g vs (length vs) i j ≡ (ltb j i && joined (get_or vs i 0) (get_or vs j 0) g.edges)
+  near_is : (i j : ℕ) → i < length vs → in_rows g vs 0 (length vs) i j ≡ (ltb j i && joined (get_or vs i 0) (get_or vs j 0) g.edges)
   near_is i j h = grind (arith, nat_tests, common_steps, has_number-neighbours_of)
 
   -- a link is an edge
@@ -37,10 +37,10 @@ module _ (g : GraphShape) (edges : List Pair) (vs : List ℕ) where
     one_root i j hi hj e = which (has_edge (get_or vs i 0, get_or vs j 0) edges) refl (has_edge (get_or vs j 0, get_or vs i 0) edges) refl (sym (joined_all (get_or vs i 0) (get_or vs j 0)) ∙ e)
       where
         by_edge : (k l : ℕ) → k < length vs → l < length vs → in_edges edges vs k l ≡ true → get_or a.roots k 0 ≡ get_or a.roots l 0
-        by_edge k l hk hl e = a.joined k l hk hl (or_right (in_rows g vs (length vs) k l) (in_edges edges vs k l) e)
+        by_edge k l hk hl e = a.joined k l hk hl (or_right (in_rows g vs 0 (length vs) k l) (in_edges edges vs k l) e)
 
         by_row : (k l : ℕ) → k < length vs → l < length vs → l < k → joined (get_or vs k 0) (get_or vs l 0) g.edges ≡ true → get_or a.roots k 0 ≡ get_or a.roots l 0
-        by_row k l hk hl lt e = a.joined k l hk hl (or_left (in_rows g vs (length vs) k l) (in_edges edges vs k l) (near_is k l hk ∙ and_from (ltb l k) (joined (get_or vs k 0) (get_or vs l 0) g.edges) (grind (arith, nat_tests, lt)) e))
+        by_row k l hk hl lt e = a.joined k l hk hl (or_left (in_rows g vs 0 (length vs) k l) (in_edges edges vs k l) (near_is k l hk ∙ and_from (ltb l k) (joined (get_or vs k 0) (get_or vs l 0) g.edges) (grind (arith, nat_tests, lt)) e))
 
         rows : joined (get_or vs i 0) (get_or vs j 0) g.edges ≡ true → get_or a.roots i 0 ≡ get_or a.roots j 0
         rows e = elim (cases_eq i j) [

@@ -5,7 +5,6 @@ mod EndLemmas
 mod DealingLemmas
 mod WorkLemmas
 mod LinkLemmas
-mod FoundLemmas
 mod PieceLemmas
 mod GroupLemmas
 mod LabelLaw

@@ -62,7 +62,7 @@ module _ (g : GraphShape) (gone : List Pair) (ms : List Move) (graph : IsGraph g
   all_graph = insertions_keep_graph g gone graph (inside_from_ascending g.vertices 0 0 gone up)
 
   -- the labels of all moves
-  pub labels_here : AreGathered (length ms) (λ i j. in_rows g (vertices ms) (length ms) i j || in_edges gone (vertices ms) i j) parents → ((roots : List ℕ) → IsForest parents roots → AreLabelled g.vertices (vertices ms) roots labels) → AreLabels (with_edges g gone) (is_mover ms) labels
+  pub labels_here : AreGathered (length ms) (λ i j. in_rows g (vertices ms) 0 (length ms) i j || in_edges gone (vertices ms) i j) parents → ((roots : List ℕ) → IsForest parents roots → AreLabelled g.vertices (vertices ms) roots labels) → AreLabels (with_edges g gone) (is_mover ms) labels
   labels_here gathered table =
       let known : AreGathered (length (vertices ms)) (all_links g gone (vertices ms) (length (vertices ms))) parents = rw (many ms) gathered in
       labels_are g gone (vertices ms) parents known order.rises order.below all_graph labels (table known.roots known.forest)

@@ -1,9 +1,8 @@
 //! A forest over the places of a list: each place points to a place that is no greater, and a root to itself.
-ghost use Rattle.std.specs.Prelude.{◌≡◌, ℕ, Bool, List, ◌<◌, length, slice_index};
-ghost use Rattle.kc_groups.specs.private.Forest.{IsForest, Joins, merged};
-ghost use Rattle.kc_groups.specs.private.Gathering.{AreLinks};
+ghost use Rattle.std.specs.Prelude.{◌≡◌, ℕ, Bool, List, ◌<◌, ◌≤◌, length, slice_index};
+ghost use Rattle.kc_groups.specs.private.Forest.{AreGathered, IsForest, Joins, merged};
 
-use kc_graph::Edge;
+use kc_graph::MAX_VERTICES;
 
 // Returns the root of a place. On the way it halves the path: every second place then points to its parent's parent.
 fn find(parents: &mut [u32], place: u32) -> u32
@@ -44,13 +43,16 @@ pub(crate) fn join(parents: &mut [u32], first: u32, second: u32) -> u32
     root
 }
 
-// Joins the two places of each link.
-pub(crate) fn join_links(links: &[Edge], parents: &mut [u32])
+// Joins each place with its parent in another forest over the same places. So each tree of that forest is within a
+// tree afterwards.
+pub(crate) fn join_forest(others: &[u32], parents: &mut [u32])
+    requires small { length others.now ≤ MAX_VERTICES }
+    requires same { length others.now ≡ length parents.old }
     requires forest { (roots : List ℕ) × IsForest parents.old roots }
-    requires links { (linked : ℕ → ℕ → Bool) × AreLinks (length parents.old) linked links.now }
-    ensures { (linked : ℕ → ℕ → Bool) → AreLinks (length parents.old) linked links.now → Joins (length parents.old) linked parents.old parents.new }
+    requires others { (roots : List ℕ) × IsForest others.now roots }
+    ensures { (linked : ℕ → ℕ → Bool) → AreGathered (length others.now) linked others.now → Joins (length others.now) linked parents.old parents.new }
 {
-    for link in links {
-        join(parents, link.b, link.a);
+    for place in 0..others.len() as u32 {
+        join(parents, place, others[place as usize]);
     }
 }

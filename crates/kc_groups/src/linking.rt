@@ -1,9 +1,9 @@
 //! The moves of a phase, gathered into a tree for each group, and the links between them.
-ghost use Rattle.std.specs.Prelude.{◌≡◌, ℕ, List, ◌<◌, ◌≤◌, IfOk, OnOk, false, true, length, slice_index};
+ghost use Rattle.std.specs.Prelude.{◌≡◌, ℕ, Bool, List, ◌<◌, ◌≤◌, IfOk, false, true, length, slice_index};
 ghost use Rattle.kc_graph.specs.Shape.{EdgesFrom};
 ghost use Rattle.kc_groups.specs.private.Forest.{AreGathered, IsForest, Joins};
 ghost use Rattle.kc_groups.specs.Gathering.{vertices};
-ghost use Rattle.kc_groups.specs.private.Gathering.{Adds, AreLinks, AreNumbered, in_row, in_rows, in_piece, in_edges};
+ghost use Rattle.kc_groups.specs.private.Gathering.{AreNumbered, in_row, in_rows, in_edges};
 
 use crate::forest::join;
 use kc_graph::{Edge, Graph, MAX_VERTICES};
@@ -78,68 +78,24 @@ fn link_row(graph: &Graph, moves: &[Move], places: &[u32], parents: &mut [u32], 
     }
 }
 
-// Makes a forest over the moves in which each is joined with those of its neighbours at lesser places.
+// Joins each move at a place of the part with those of its neighbours at lesser places.
 pub(crate) fn link_rows(
-    alloc: Global,
     graph: &Graph,
     moves: &[Move],
     places: &[u32],
-) -> Result<Vec<u32>, AllocError>
-    requires small { length moves.now ≤ MAX_VERTICES }
-    requires numbered { AreNumbered graph.now.vertices (vertices moves.now) places.now }
-    ensures { IfOk result (λ parents. AreGathered (length moves.now) (in_rows graph.now (vertices moves.now) (length moves.now)) parents.items) }
-{
-    let mut parents = lone_places(alloc, moves.len() as u32)?;
-    for place in 0..moves.len() as u32 {
-        link_row(graph, moves, places, &mut parents, place);
-    }
-    Ok(parents)
-}
-
-// Appends the links of the move at `place` to its neighbours at lesser places, which `link_row` joins.
-fn find_links(
-    graph: &Graph,
-    moves: &[Move],
-    places: &[u32],
-    place: u32,
-    links: &mut Vec<Edge>,
-) -> Result<(), AllocError>
-    requires inside { place < length moves.now }
-    requires numbered { AreNumbered graph.now.vertices (vertices moves.now) places.now }
-    ensures { OnOk result (Adds (length moves.now) (in_row graph.now (vertices moves.now) place) links.old.items links.new.items) }
-{
-    let v = vertex_with_prefetch(graph, moves, place);
-    for w in graph.neighbours(v) {
-        if *w >= v {
-            return Ok(());
-        }
-        let other = places[*w as usize];
-        if other < place {
-            links.push(Edge { a: other, b: place })?;
-        }
-    }
-    Ok(())
-}
-
-// Returns the links to lesser places of the moves at the places of a part.
-pub(crate) fn links_between(
-    alloc: Global,
-    graph: &Graph,
-    moves: &[Move],
-    places: &[u32],
+    parents: &mut [u32],
     part: Range<usize>,
-) -> Result<Vec<Edge>, AllocError>
+)
     requires small { length moves.now ≤ MAX_VERTICES }
     requires numbered { AreNumbered graph.now.vertices (vertices moves.now) places.now }
+    requires gathered { (before : ℕ → ℕ → Bool) × AreGathered (length moves.now) before parents.old }
     requires order { part.start ≤ part.end }
     requires inside { part.end ≤ length moves.now }
-    ensures { IfOk result (λ links. AreLinks (length moves.now) (in_piece graph.now (vertices moves.now) part.start part.end) links.items) }
+    ensures { Joins (length moves.now) (in_rows graph.now (vertices moves.now) part.start part.end) parents.old parents.new }
 {
-    let mut links = Vec::new(alloc);
     for place in part.start as u32..part.end as u32 {
-        find_links(graph, moves, places, place, &mut links)?;
+        link_row(graph, moves, places, parents, place);
     }
-    Ok(links)
 }
 
 // Joins the two moves at the ends of each edge, if both ends move.

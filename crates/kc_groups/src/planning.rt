@@ -13,7 +13,7 @@ ghost use Rattle.kc_groups.specs.private.Labels.{IsLabelled};
 ghost use Rattle.kc_groups.specs.WellFormed.{IsWellFormed};
 
 use crate::dealing::{deal_edges, deal_moves, open_groups};
-use crate::linking::{join_ends, link_rows};
+use crate::linking::{join_ends, link_rows, lone_places};
 use crate::moved::find_moves;
 use crate::pieces::gather_rows;
 use crate::work::{GroupWork, label, number, reset};
@@ -36,7 +36,7 @@ fn label_groups(
 )
     requires order { AreInOrder graph.now.vertices moves.now }
     requires numbered { AreNumbered graph.now.vertices (vertices moves.now) places.old }
-    requires gathered { AreGathered (length moves.now) (in_rows graph.now (vertices moves.now) (length moves.now)) parents.old }
+    requires gathered { AreGathered (length moves.now) (in_rows graph.now (vertices moves.now) 0 (length moves.now)) parents.old }
     requires ascending { EdgesFrom graph.now.vertices 0 0 gone.now }
     ensures { AreLabels (with_edges graph.now gone.now) (is_mover moves.now) places.new }
 {
@@ -83,9 +83,9 @@ fn plan_labelled(
 /// Cost:
 ///
 /// - steps for the vertices that move, their neighbours and the edges of the phase, whatever the number of vertices;
-/// - threads for the neighbours: the moves are cut into a piece for each worker, but at most one for each full 65,536
-///   moves;
-/// - 4 bytes a move besides the plan; with several pieces also 8 to 16 bytes for each link between two moves.
+/// - threads for the neighbours: the moves are cut into a piece for each worker, but at most into 8. A piece has some
+///   8,192 moves or more;
+/// - 4 bytes a move besides the plan; with several pieces also 4 bytes a move for each piece.
 ///
 /// One thread does all other work. The plan doesn't depend on the workers. The workspace is clean before and
 /// afterwards. Fails only if memory runs out; the workspace is then of no further use.
@@ -146,8 +146,10 @@ pub fn plan_phase(
     let places = work.places.as_mut_slice();
     let list = moves.as_slice();
     number(list, places);
-    let mut parents = link_rows(alloc, graph, list, places)?;
-    label_groups(graph, &[], list, places, &mut parents);
+    let mut forest = lone_places(alloc, list.len() as u32)?;
+    let parents = forest.as_mut_slice();
+    link_rows(graph, list, places, parents, 0..list.len());
+    label_groups(graph, &[], list, places, parents);
     let phase = Phase {
         number: phase,
         add,

@@ -1,5 +1,5 @@
 -- Numbers, trees and labels of vertices that move.
-use Rattle.std.specs.Prelude.{ℕ, ◌<◌, ◌≡◌, ◌==◌, nat_le, nat_lt, Bool, false, ◌&&◌, ◌||◌, List, length, get_or, All}
+use Rattle.std.specs.Prelude.{ℕ, ◌<◌, ◌≡◌, ◌==◌, nat_le, nat_lt, Bool, false, ◌-◌, ◌&&◌, ◌||◌, List, length, get_or}
 use Rattle.kc_graph.specs.Numbers.{RisesFrom, AllBelow, has_number}
 use Rattle.kc_graph.specs.Shape.{GraphShape, Pair, neighbours_of, has_edge}
 use Rattle.kc_levels.specs.declared.moves.Move.{Move}
@@ -25,26 +25,17 @@ pub record AreNumbered (n : ℕ) (movers places : List ℕ) : Type 0 where
 abbrev pub is_near : List ℕ → List ℕ → ℕ → ℕ → Bool
 is_near movers items i j = nat_lt j i && has_number (get_or movers j 0) items
 
--- the movers at places i and j are joined in the graph; i is below k, and j is the lesser place
-abbrev pub in_rows : GraphShape → List ℕ → ℕ → ℕ → ℕ → Bool
-in_rows g movers k i j = nat_lt i k && is_near movers (neighbours_of (get_or movers i 0) g.edges) i j
+-- the movers at places i and j are joined in the graph; i is at least `from` and below k, and j is less
+abbrev pub in_rows : GraphShape → List ℕ → ℕ → ℕ → ℕ → ℕ → Bool
+in_rows g movers from k i j = nat_le from i && (nat_lt i k && is_near movers (neighbours_of (get_or movers i 0) g.edges) i j)
 
 -- the same for the movers at place k alone
 abbrev pub in_row : GraphShape → List ℕ → ℕ → ℕ → ℕ → Bool
 in_row g movers k i j = (i == k) && is_near movers (neighbours_of (get_or movers k 0) g.edges) i j
 
--- the same for the movers from place `from` on
+-- the same for the movers from place `from` on and below k, and for as many at the other end of the list
 abbrev pub in_piece : GraphShape → List ℕ → ℕ → ℕ → ℕ → ℕ → Bool
-in_piece g movers from k i j = nat_le from i && in_rows g movers k i j
-
--- the list has the pairs of linked places among m places, each with the lesser place first
-pub record AreLinks (m : ℕ) (linked : ℕ → ℕ → Bool) (links : List Pair) : Type 0 where
-  pub inside : All (λ (e : Pair). (e.0 < m) × (e.1 < m)) links
-  pub same : (i j : ℕ) → i < m → j < m → has_edge (j, i) links ≡ linked i j
-
--- the list `old` became `new` by links: if it had the pairs of some links before, it has those of them and of these
-abbrev pub Adds : ℕ → (ℕ → ℕ → Bool) → List Pair → List Pair → Type 0
-Adds m linked old new = (before : ℕ → ℕ → Bool) → AreLinks m before old → AreLinks m (λ i j. before i j || linked i j) new
+in_piece g movers from k i j = in_rows g movers from k i j || in_rows g movers (length movers - k) (length movers - from) i j
 
 -- an edge leads from the mover at place i to the one at place j
 abbrev pub in_edges : List Pair → List ℕ → ℕ → ℕ → Bool
