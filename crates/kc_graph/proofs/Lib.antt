@@ -11,7 +11,6 @@ mod EdgeListLemmas
 mod DigitLemmas
 mod OrderLemmas
 mod RangeLemmas
-mod PlaceLemmas
 mod DecidingLemmas
 mod KeyLemmas
 mod BatchLemmas
