@@ -20,9 +20,7 @@ range_split xs a b c h l =
     rw (e, take-add (b - a) (c - b) (drop a xs), drop-drop, j) refl
 
 pub range_at : (xs : List ℕ) (a b k : ℕ) → a ≤ k → k < b → get_or (slice_range xs a b) (k - a) 0 ≡ get_or xs k 0
-range_at xs a b k h l =
-    let j : a + (k - a) ≡ k = omega arith in
-    rw (get_or-take (b - a) (drop a xs) (k - a) 0 (omega arith), get_or-drop, j) refl
+range_at xs a b k h l = grind (arith, nat_tests, get_or-take, get_or-drop)
 
 -- a run of at most ten digits that says a number
 pub digits_end : (bytes : List ℕ) (start value end : ℕ) → DigitsAt bytes start value end → start < end → end - start ≤ 10 → value < 2 ^ 32 → DigitsTo bytes start value end
@@ -36,8 +34,7 @@ digit_in line start end k w d h l =
     rw (range_at line start end k h l) at all
 
 pub differ : (b : Bool) → b ≡ true → b ≡ false → ⊥
-differ true e f = cc
-differ false e f = cc
+differ b e f = grind (arith, nat_tests)
 
 -- a run that stops is no shorter than another from the same place
 no_shorter : (line : List ℕ) (start end k : ℕ) → end ≤ length line → list_all is_digit (slice_range line start end) ≡ true → start ≤ k → StopsAt line k → end ≤ k
@@ -62,13 +59,7 @@ pub record Number (w : List ℕ) (value : ℕ) : Type 0 where
 
 number_parts : (w : List ℕ) (some few digits small : Bool) (x value : ℕ) → nat_lt 0 (length w) ≡ some → nat_le (length w) 10 ≡ few → list_all is_digit w ≡ digits → nat_lt x (2 ^ 32) ≡ small → value_from 0 w ≡ x
     → (if (some && few) && (digits && small) then Some x else None) ≡ Some value → Number w value
-number_parts w true true true true x value a b d s v e =
-    let same : x ≡ value = same_Some _ _ e in
-    record { some = grind (arith, nat_tests, a); few = grind (arith, nat_tests, b); digits = d; value_is = v ∙ same; small = grind (arith, nat_tests, s, same) }
-number_parts w true true true false x value a b d s v e = absurd cc
-number_parts w true true false small x value a b d s v e = absurd cc
-number_parts w true false digits small x value a b d s v e = absurd cc
-number_parts w false few digits small x value a b d s v e = absurd cc
+number_parts w some few digits small x value a b d s v e = grind (arith, nat_tests, same_Some)
 
 pub number_has : (w : List ℕ) (value : ℕ) → number_of w ≡ Some value → Number w value
 number_has w value e = number_parts w _ _ _ _ (value_from 0 w) value refl refl refl refl refl e

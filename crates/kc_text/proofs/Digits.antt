@@ -32,10 +32,7 @@ too_large v ds h = grind (arith, nat_tests, value_rises v ds)
 -- a byte that is no digit, or a digit that doesn't fit, ends both
 step_same : (digit fits all small : Bool) (value : ℕ) (rest : Option ℕ) → (fits ≡ false → small ≡ false) → (fits ≡ true → rest ≡ (if all && small then Some value else None))
     → (if digit && fits then rest else None) ≡ (if (digit && all) && small then Some value else None)
-step_same false fits all small value rest h k = refl
-step_same true true all small value rest h k = k refl
-step_same true false true small value rest h k = rw (h refl) refl
-step_same true false false small value rest h k = refl
+step_same digit fits all small value rest h k = grind (arith, nat_tests)
 
 at_least : (v : ℕ) → nat_lt v (2 ^ 32) ≡ false → 2 ^ 32 ≤ v
 at_least v h = grind (arith, nat_tests)

@@ -1,6 +1,6 @@
 -- The lines that a scanner gives, and the bytes that it takes.
-use Rattle.std.proofs.Common.{ℕ, suc, ◌+◌, ◌-◌, ◌<◌, ◌≤◌, ◌≡◌, ◌==◌, List, [], ◌∷◌, ◌++◌, length, take, drop, arith, refl, sym, ap, ◌∙◌, subst, append_assoc, get_or, true, false, Bool, nat_le, add-one, drop-cons, inl, inr}
-use Rattle.std.specs.Prelude.{Option, None, Some, if◌then◌else◌, ◌&&◌, ◌||◌, nat_lt, not, ◌*◌}
+use Rattle.std.proofs.Common.{ℕ, suc, ◌+◌, ◌-◌, ◌<◌, ◌≤◌, ◌≡◌, ◌==◌, List, [], ◌∷◌, ◌++◌, length, take, drop, arith, refl, sym, ap, ◌∙◌, subst, append_assoc, get_or, true, false, Bool, nat_le, add-one, drop-cons}
+use Rattle.std.specs.Prelude.{Option, if◌then◌else◌, ◌&&◌, ◌||◌, nat_lt, not, ◌*◌}
 use Rattle.std.proofs.lemmas.List.{length-append, length-take-le, take-append-drop, length-drop, get_or-take}
 use Rattle.std.proofs.lemmas.Bool.Decides.{nat_tests}
 use Rattle.std.proofs.lemmas.Bool.{cases_lt}
@@ -40,14 +40,10 @@ no_end_any (x ∷ xs) h =
     rw (e, no_end_any xs (λ k lt. h (suc k) (omega arith))) refl
 
 undecided : (room : ℕ) (ready : List ℕ) → length ready ≤ room → HasNoEnd ready → (nat_lt room (length ready) || list_any (λ b. b == 10) ready) ≡ false
-undecided room ready h f =
-    let e : nat_lt room (length ready) ≡ false = grind (arith, nat_tests) in
-    rw (e, no_end_any ready f) refl
+undecided room ready h f = grind (arith, nat_tests, no_end_any)
 
 cut_at : (ready : List ℕ) (at : ℕ) → at < length ready → get_or ready at 0 ≡ 10 → ready ≡ take at ready ++ 10 ∷ drop (at + 1) ready
-cut_at ready at h e =
-    let d : drop at ready ≡ 10 ∷ drop (at + 1) ready = rw (add-one, drop-cons ready at 0) (ap (λ x. x ∷ drop (suc at) ready) e) in
-    sym (take-append-drop at ready) ∙ ap (λ xs. take at ready ++ xs) d
+cut_at ready at h e = grind (arith, nat_tests, add-one, drop-cons, take-append-drop)
 
 -- the lines of a rest that begins with c and an end
 closed : (limit n room room' : ℕ) (piece ready c d more : List ℕ) → ready ≡ c ++ 10 ∷ d → room ≡ length c + suc room' → HasNoEnd c
@@ -86,15 +82,11 @@ passed : (limit n room room' : ℕ) (piece piece' c more : List ℕ) → room �
     → lines_from limit n room piece (c ++ more) ≡ lines_from limit n room' piece' more
 passed limit n room room' piece piece' c more e h len same =
     let all = pass_over limit n room' room piece c more e h in
-    elim (cases_lt limit (length piece')) [
-      | inr small ↦ all ∙ ap (λ p. lines_from limit n room' p more) (sym (same small))
-      | inl large ↦ all ∙ over_same limit n room' (piece ++ c) piece' more (simp length-append (omega arith)) large
-    ]
+    grind (arith, nat_tests, cases_lt limit (length piece'), over_same, length-append)
 
 work_falls : (room room' : ℕ) (ready ready' : List ℕ) → room' ≡ room - length ready → ready' ≡ [] → length ready ≤ room
     → 2 * room' + (if (length ready' == 0) && not false then 1 else 0) ≤ 2 * room + (if (length ready == 0) && not false then 1 else 0)
-work_falls room room' [] ready' e er h = rw er (omega arith)
-work_falls room room' (x ∷ xs) ready' e er h = rw er (omega arith)
+work_falls room room' ready ready' e er h = grind (arith, nat_tests)
 
 pub absorbs : (limit n room : ℕ) (piece ready piece' : List ℕ) (room' : ℕ) (ready' : List ℕ) → length ready ≤ room → HasNoEnd ready
     → length piece' ≡ length piece + length ready → (length piece' ≤ limit → piece' ≡ piece ++ ready) → room' ≡ room - length ready → ready' ≡ []
@@ -116,8 +108,7 @@ unfolding scan_lines lines_from
 gives_end limit n room piece ready ended ep er ee = record { lines = λ bs. rw (ep, er, ee) refl; takes = omega arith; last = λ _. refl; settled = λ _. rw ee refl }
 
 last_line : (limit n : ℕ) (piece : List ℕ) → 0 < length piece → last_of limit n piece ≡ numbered_line limit n piece ∷ record { number = n + 1; body = End } ∷ []
-last_line limit n [] h = absurd (omega arith)
-last_line limit n (x ∷ xs) h = refl
+last_line limit n piece h = grind (arith, nat_tests)
 
 pub gives_last : (limit n room : ℕ) (piece ready : List ℕ) (ended : Bool) (body : Body) (piece' : List ℕ) → 0 < length piece → ready ≡ [] → ended ≡ true → body ≡ body_of limit piece → piece' ≡ []
     → Gives (record { number = n; body = body }) (record { limit = limit; number = n; room = room; piece = piece; ready = ready; ended = ended })
@@ -151,31 +142,26 @@ gives_whole limit n room piece ready ended len room' piece' ready' h er ep ed =
 pub filled : (limit n room : ℕ) (piece ready new : List ℕ) (ended : Bool) (old left : Option (List ℕ)) → ready ≡ [] → ended ≡ false → old ≡ prepend_known new left
     → scan_lines_left (record { limit = limit; number = n; room = room; piece = piece; ready = new; ended = ended }) left ≡ scan_lines_left (record { limit = limit; number = n; room = room; piece = piece; ready = ready; ended = ended }) old
 unfolding scan_lines_left scan_lines
-filled limit n room piece ready new ended old None er ee e = rw e refl
-filled limit n room piece ready new ended old (Some bs) er ee e = rw (e, er, ee) refl
+filled limit n room piece ready new ended old left er ee e = grind (arith, nat_tests)
 
 -- a read at the end finds nothing
 pub at_end : (limit n room : ℕ) (piece ready new : List ℕ) (ended : Bool) (old left : Option (List ℕ)) → ready ≡ [] → ended ≡ false → new ≡ [] → old ≡ prepend_known new left → IsAtEnd left
     → scan_lines_left (record { limit = limit; number = n; room = room; piece = piece; ready = new; ended = true }) left ≡ scan_lines_left (record { limit = limit; number = n; room = room; piece = piece; ready = ready; ended = ended }) old
 unfolding scan_lines_left scan_lines
-at_end limit n room piece ready new ended old None er ee en e h = rw e refl
-at_end limit n room piece ready new ended old (Some bs) er ee en e h = rw (e, er, ee, en, h) refl
+at_end limit n room piece ready new ended old left er ee en e h = grind (arith, nat_tests)
 
 pub told_line : (line : Line) (old new : Scan) (left : Option (List ℕ)) → Gives line old new → scan_lines_left old left ≡ option_map (onto line) (scan_lines_left new left)
 unfolding scan_lines_left
-told_line line old new None h = refl
-told_line line old new (Some bs) h = ap Some (h.lines bs)
+told_line line old new left h = grind (arith, nat_tests)
 
 pub told_same : (old new : Scan) (left : Option (List ℕ)) → Absorbs old new → scan_lines_left old left ≡ scan_lines_left new left
 unfolding scan_lines_left
-told_same old new None h = refl
-told_same old new (Some bs) h = ap Some (h.lines bs)
+told_same old new left h = grind (arith, nat_tests)
 
 pub told_fresh : (limit room : ℕ) (piece ready : List ℕ) (left : Option (List ℕ)) → piece ≡ [] → ready ≡ []
     → scan_lines_left (record { limit = limit; number = 1; room = room; piece = piece; ready = ready; ended = false }) left ≡ option_map (lines limit room) left
 unfolding scan_lines_left scan_lines
-told_fresh limit room piece ready None ep er = refl
-told_fresh limit room piece ready (Some bs) ep er = rw (ep, er) refl
+told_fresh limit room piece ready left ep er = grind (arith, nat_tests)
 
 -- the bytes that were read can't both decide the next line and leave it open
 pub opened : (first now : Scan) → is_scan_decided first ≡ true → is_scan_decided now ≡ false → now ≡ first → ⊥
@@ -186,10 +172,7 @@ pub decided_line : (line : Line) (first now new : Scan) → now ≡ first → Gi
 decided_line line first now new e h bs = ap (λ r. scan_lines r bs) (sym e) ∙ h.lines bs
 
 pub none_behind : (body : Body) (rest : List Line) → IsLast body → behind body rest ≡ []
-none_behind (Text _) rest h = absurd h
-none_behind TooLong rest h = absurd h
-none_behind Limit rest h = refl
-none_behind End rest h = refl
+none_behind body rest h = grind (arith, nat_tests)
 
 -- the last line comes again
 pub gives_again : (line : Line) (old new : Scan) → Gives line old new → IsLast line.body → (bs : List ℕ) → scan_lines new bs ≡ line ∷ []

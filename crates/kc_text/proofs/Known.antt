@@ -1,28 +1,24 @@
 -- How the bytes taken by a sink grow, if the sink tells them or not.
 use Rattle.std.proofs.Common.{ℕ, ◌+◌, ◌≡◌, List, [], ◌++◌, take, drop, length, ◌-◌, arith, refl, ap, ◌∙◌, append_assoc, sym}
-use Rattle.std.specs.Prelude.{Option, Some, None, Result, Ok, Err}
+use Rattle.std.specs.Prelude.{Option, Result}
 use Rattle.std.specs.Io.KnownBytes.{append_known}
 use Rattle.std.proofs.Math.Seq.{take-add}
 use Rattle.std.proofs.lemmas.List.{take_all, length-drop, append-nil}
+use Rattle.std.proofs.lemmas.Bool.Decides.{nat_tests}
 use Rattle.kc_text.specs.declared.buf.SendFault.{SendFault}
-use Rattle.kc_text.specs.declared.buf.SendFault.TheVariants.{WriteFault, Memory}
 use Rattle.kc_text.specs.Writing.{IsPrefix, IsProperPrefix, Sends, Appends}
 
 -- taking nothing changes nothing
 pub append_none : (now : Option (List ℕ)) → now ≡ append_known now []
-append_none None = refl
-append_none (Some xs) = rw append-nil refl
+append_none now = grind (arith, nat_tests, append-nil)
 
 -- taking a and then b is taking both
 pub append_twice : (before now later : Option (List ℕ)) (a b : List ℕ) → now ≡ append_known before a → later ≡ append_known now b → later ≡ append_known before (a ++ b)
-append_twice None now later a b e f = rw (f, e) refl
-append_twice (Some xs) now later a b e f = rw (f, e) (ap Some (append_assoc xs a b))
+append_twice before now later a b e f = grind (arith, nat_tests, append_assoc)
 
 -- a prefix of some bytes that were taken, and then more of them
 pub append_take : (before now later : Option (List ℕ)) (at k : ℕ) (bytes : List ℕ) → now ≡ append_known before (take at bytes) → later ≡ append_known now (take k (take (length bytes - at) (drop at bytes))) → later ≡ append_known before (take (at + k) bytes)
-append_take before now later at k bytes e f =
-    let all : take (length bytes - at) (drop at bytes) ≡ drop at bytes = take_all (length bytes - at) (drop at bytes) (simp length-drop (omega arith)) in
-    rw take-add (append_twice before now later (take at bytes) (take k (drop at bytes)) e (rw all at f))
+append_take before now later at k bytes e f = grind (arith, nat_tests, take_all, length-drop, take-add, append_twice)
 
 -- nothing is a prefix of each text
 pub prefix_none : (before now : Option (List ℕ)) (text : List ℕ) → now ≡ before → IsPrefix before now text
@@ -56,11 +52,8 @@ prefix_then before now later a b e f = record {
 
 -- all of a, and then as much of b as the result says
 pub appends_then : {T : Type 0} → (before now later : Option (List ℕ)) (a b : List ℕ) (result : Result T SendFault) → now ≡ append_known before a → Appends now later b result → Appends before later (a ++ b) result
-appends_then before now later a b (Ok _) e f = append_twice before now later a b e f
-appends_then before now later a b (Err _) e f = prefix_then before now later a b e f
+appends_then before now later a b result e f = grind (arith, nat_tests, append_twice, prefix_then)
 
 -- one line is a text of its own
 pub appends_send : {T : Type 0} → (before now : Option (List ℕ)) (text : List ℕ) (result : Result T SendFault) → Sends before now text result → Appends before now text result
-appends_send before now text (Ok _) s = s
-appends_send before now text (Err WriteFault) s = prefix_of_proper before now text s
-appends_send before now text (Err (Memory _)) s = prefix_none before now text s
+appends_send before now text result s = grind (arith, nat_tests, prefix_of_proper, prefix_none)

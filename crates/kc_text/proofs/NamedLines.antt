@@ -1,5 +1,5 @@
 -- Lines of a name and two numbers that are read in one pass.
-use Rattle.std.proofs.Common.{ℕ, ◌+◌, ◌<◌, ◌≡◌, true, false, List, [], ◌∷◌, ◌++◌, length, take, refl, sym, ap, subst, ◌∙◌, arith, get_or, inl, inr, append_assoc}
+use Rattle.std.proofs.Common.{ℕ, ◌+◌, ◌<◌, ◌≡◌, true, false, List, [], ◌∷◌, ◌++◌, length, take, refl, sym, ap, subst, ◌∙◌, arith, get_or, append_assoc}
 use Rattle.std.specs.Prelude.{nat_lt, ◌==◌}
 use Rattle.std.proofs.lemmas.Bool.{cases_lt, and_parts}
 use Rattle.std.proofs.lemmas.Bool.Decides.{nat_tests}
@@ -30,12 +30,7 @@ begins_named bytes name w s l b =
     record {
       within = omega arith;
       words_are = λ rest. rw (all, append_assoc) (first_word name (get_or bytes (length name) 0) rest w b);
-      plain = λ k lt. elim (cases_lt k (length name)) [
-        | inl before ↦
-            let same : get_or name k 0 ≡ get_or bytes k 0 = ap (λ ys. get_or ys k 0) (sym s) ∙ get_or-take (length name) bytes k 0 before in
-            subst (λ x. (x == 10) ≡ false) same (word_no_end name k w before)
-        | inr here ↦ let at : k ≡ length name = omega arith in rw at (blank_no_end _ b)
-      ];
+      plain = λ k lt. grind (arith, nat_tests, cases_lt k (length name), get_or-take, word_no_end, blank_no_end);
     }
 
 pub named_line : (bytes name : List ℕ) (start first second len : ℕ) → BeginsAt bytes (λ ws. name ∷ ws) start → NumbersTo bytes start first second len

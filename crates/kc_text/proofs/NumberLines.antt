@@ -1,5 +1,5 @@
 -- Lines of two numbers that are read in one pass.
-use Rattle.std.proofs.Common.{ℕ, zero, suc, ◌+◌, ◌-◌, ◌<◌, ◌≤◌, ◌≡◌, Bool, true, false, List, [], ◌∷◌, ◌++◌, length, take, drop, refl, sym, ap, subst, ◌∙◌, arith, get_or, inl, inr}
+use Rattle.std.proofs.Common.{ℕ, ◌+◌, ◌-◌, ◌<◌, ◌≤◌, ◌≡◌, Bool, true, false, List, [], ◌∷◌, ◌++◌, length, take, drop, refl, sym, ap, subst, ◌∙◌, arith, get_or, inl, inr}
 use Rattle.std.specs.Prelude.{Option, Some, None, IfNone, nat_lt, ◌==◌, if◌then◌else◌}
 use Rattle.std.specs.List.{list_all, slice_range}
 use Rattle.std.proofs.lemmas.Bool.{cases_lt}
@@ -38,22 +38,17 @@ byte_of Plus = 43
 byte_of Minus = 45
 
 sign_byte : (x : ℕ) (plus minus : Bool) (sign : Sign) → (x == 43) ≡ plus → (x == 45) ≡ minus → Some sign ≡ (if plus then Some Plus else if minus then Some Minus else None) → x ≡ byte_of sign
-sign_byte x true minus sign e f h = let same : sign ≡ Plus = same_Some _ _ h in rw same (grind (arith, nat_tests, e))
-sign_byte x false true sign e f h = let same : sign ≡ Minus = same_Some _ _ h in rw same (grind (arith, nat_tests, f))
-sign_byte x false false sign e f h = absurd cc
+sign_byte x plus minus sign e f h = grind (arith, nat_tests, same_Some)
 
 plain_two : (x y : ℕ) (more : List ℕ) → (x == 10) ≡ false → (y == 10) ≡ false → (k : ℕ) → k < 2 → (get_or (x ∷ y ∷ more) k 0 == 10) ≡ false
-plain_two x y more e f zero lt = e
-plain_two x y more e f (suc zero) lt = f
-plain_two x y more e f (suc (suc k)) lt = absurd (omega arith)
+plain_two x y more e f it lt = grind (arith, nat_tests)
 
 pub blank_no_end : (b : ℕ) → is_blank b ≡ true → (b == 10) ≡ false
 blank_no_end b e = grind (arith, nat_tests, e)
 
 begins : (sign : Sign) (x y : ℕ) (more : List ℕ) → x ≡ byte_of sign → is_blank y ≡ true → BeginsAt (x ∷ y ∷ more) (with_sign (Some sign)) 2
 unfolding words_from
-begins Plus x y more e b = record { within = omega arith; words_are = λ rest. rw (e, b) refl; plain = plain_two x y more (rw e refl) (blank_no_end y b) }
-begins Minus x y more e b = record { within = omega arith; words_are = λ rest. rw (e, b) refl; plain = plain_two x y more (rw e refl) (blank_no_end y b) }
+begins sign x y more e b = grind (arith, nat_tests, plain_two, blank_no_end)
 
 sign_in : (found sign : Option Sign) (at start : ℕ) → ◌≡◌ {A = Option (Option Sign × ℕ)} (Some (found, at)) (Some (sign, start)) → sign ≡ found
 sign_in found sign at start e = ap (λ (p : Option Sign × ℕ). p.0) (sym (same_Some _ _ e))
@@ -76,9 +71,7 @@ front_is x y more = let long : nat_lt (length (x ∷ y ∷ more)) 2 ≡ false = 
 -- a line that begins with these bytes has the words of its front
 pub begins_front : (bytes : List ℕ) (sign : Option Sign) (start : ℕ) → ◌≡◌ {A = Option (Option Sign × ℕ)} (Some (sign, start)) (front_of bytes) → BeginsAt bytes (with_sign sign) start
 unfolding front_of
-begins_front [] sign start f = absurd cc
-begins_front (x ∷ []) sign start f = absurd cc
-begins_front (x ∷ y ∷ more) sign start f = begins_by x y more (sign_of x) (is_blank y) sign start refl refl (sym (f ∙ front_is x y more))
+begins_front bytes sign start f = grind (arith, nat_tests, begins_by, front_is)
 
 -- a line's end
 pub closes_here : (bytes : List ℕ) (end : ℕ) → end < length bytes → get_or bytes end 0 ≡ 10 → ClosesAt bytes end end
@@ -101,9 +94,7 @@ digits_run run e = let all = AllPass-from_list_all is_digit run e in λ k d lt. 
 
 -- each byte of a number is a digit
 digit_there : (bytes : List ℕ) (start value end k : ℕ) → DigitsTo bytes start value end → start ≤ k → k < end → is_plain (get_or bytes k 0) ≡ true
-digit_there bytes start value end k d h l =
-    let here = digit_in bytes start end k d.within d.digits h l in
-    rw here refl
+digit_there bytes start value end k d h l = grind (arith, nat_tests, digit_in, d.within, d.digits)
 
 blank_there : (b : ℕ) → is_blank b ≡ true → is_plain b ≡ true
 blank_there b e = grind (arith, nat_tests, e)
@@ -184,9 +175,7 @@ stays bytes n h l e = rw (length-take-le n bytes l, get_or-take n bytes (n - 1) 
 
 -- a carriage return is dropped
 goes : (bytes : List ℕ) (n : ℕ) → n < length bytes → get_or bytes n 0 ≡ 13 → without_cr (take (n + 1) bytes) ≡ take n bytes
-goes bytes n l e =
-    let m : n + 1 - 1 ≡ n = omega arith in
-    rw (length-take-le (n + 1) bytes (omega arith), m, get_or-take (n + 1) bytes n 0 (omega arith), e) (take-take n (n + 1) bytes (omega arith))
+goes bytes n l e = grind (arith, nat_tests, length-take-le, get_or-take, take-take)
 
 text_is : (bytes : List ℕ) (end len : ℕ) → 0 < end → ClosesAt bytes end len → is_plain (get_or bytes (end - 1) 0) ≡ true → without_cr (take len bytes) ≡ take end bytes
 text_is bytes end len h c p = grind (arith, nat_tests, goes, stays, plain_no_cr, c.near, c.within, c.before, c.after)
@@ -234,18 +223,7 @@ nothing_taken bytes e = cc
 
 pub text_with : (bytes : List ℕ) (len : ℕ) (cr : Bool) → len < length bytes → get_or bytes len 0 ≡ 10 → (get_or (take len bytes) (len - 1) 0 == 13) ≡ cr → Text bytes len
 text_with bytes len false l h e = record { end = len; closes = closes_here bytes len l h; is = rw (length-take-le len bytes (omega arith), e) refl }
-text_with bytes len true l h e = elim (cases_lt 0 len) [
-  | inl some ↦
-      let at : len ≡ len - 1 + 1 = omega (arith, some) in
-      let t = rw (get_or-take len bytes (len - 1) 0 (omega (arith, some))) at e in
-      let here : get_or bytes (len - 1) 0 ≡ 13 = grind (arith, nat_tests, t) in
-      record {
-        end = len - 1;
-        closes = subst (λ k. ClosesAt bytes (len - 1) k) (sym at) (closes_behind bytes (len - 1) (omega (arith, at, l)) here (subst (λ k. get_or bytes k 0 ≡ 10) at h));
-        is = ap (λ k. without_cr (take k bytes)) at ∙ goes bytes (len - 1) (omega (arith, at, l)) here;
-      }
-  | inr none ↦ absurd (nothing_taken bytes (let at : len ≡ 0 = omega (arith, none) in subst (λ k. (get_or (take k bytes) (k - 1) 0 == 13) ≡ true) at e))
-]
+text_with bytes len true l h e = grind (arith, nat_tests, cases_lt 0 len, get_or-take, closes_behind, goes, nothing_taken)
 
 -- a part of a list's beginning
 range_take : (n : ℕ) (xs : List ℕ) (a b : ℕ) → a ≤ b → b ≤ n → slice_range (take n xs) a b ≡ slice_range xs a b
@@ -260,14 +238,10 @@ drop_range n xs a h =
     ap (λ k. drop a (take k xs)) e ∙ drop-take a (n - a) xs
 
 digits_of : (bytes : List ℕ) (start end value : ℕ) → start ≤ end → end ≤ length bytes → number_of (slice_range bytes start end) ≡ Some value → DigitsTo bytes start value end
-digits_of bytes start end value h l e =
-    let w = number_has (slice_range bytes start end) value e in
-    record { after = omega (arith, w.some, range_length bytes start end h l); within = l; digits = w.digits; number = e }
+digits_of bytes start end value h l e = grind (arith, nat_tests, number_has, range_length)
 
 front_whole : (n : ℕ) (bytes : List ℕ) (sign : Option Sign) (start : ℕ) → 2 ≤ n → IsFront (take n bytes) sign start → IsFront bytes sign start
-front_whole n bytes None start h f = f
-front_whole n bytes (Some Plus) start h f = (f.0, (rw (get_or-take n bytes 0 0 (omega arith)) at f.1.0, rw (get_or-take n bytes 1 0 (omega arith)) at f.1.1))
-front_whole n bytes (Some Minus) start h f = (f.0, (rw (get_or-take n bytes 0 0 (omega arith)) at f.1.0, rw (get_or-take n bytes 1 0 (omega arith)) at f.1.1))
+front_whole n bytes sign start h f = grind (arith, nat_tests, get_or-take)
 
 no_blank_past : (b : ℕ) → b ≡ 0 → is_blank b ≡ true → ⊥
 no_blank_past b z e = differ (is_blank b) e (rw z refl)
@@ -291,11 +265,7 @@ digit_no_sign b e = grind (arith, nat_tests, e)
 
 front_found : (bytes : List ℕ) (sign : Option Sign) (start : ℕ) → FrontStands bytes sign start → front_of bytes ≡ Some (sign, start)
 unfolding front_of
-front_found [] sign start f = absurd (omega (arith, f.more))
-front_found (x ∷ []) sign start f = absurd (omega (arith, f.more))
-front_found (x ∷ y ∷ more) None start f = front_is x y more ∙ rw (f.front, digit_no_sign x (rw f.front at f.digit)) refl
-front_found (x ∷ y ∷ more) (Some Plus) start f = front_is x y more ∙ rw (f.front.0, f.front.1.0, f.front.1.1) refl
-front_found (x ∷ y ∷ more) (Some Minus) start f = front_is x y more ∙ rw (f.front.0, f.front.1.0, f.front.1.1) refl
+front_found bytes sign start f = grind (arith, nat_tests, front_is, digit_no_sign)
 
 -- the places of the parts of a line of two numbers
 record Stands (bytes : List ℕ) (sign : Option Sign) (first second len : ℕ) : Type 0 where
@@ -336,5 +306,4 @@ no_numbers bytes sign start f h = λ len e other first second t.
     h first second len (subst (λ k. NumbersStand bytes k first second len) at s.numbers)
 
 pub none_weaker : {T P Q : Type 0} (r : Option T) → (P → Q) → IfNone r P → IfNone r Q
-none_weaker None f p = f p
-none_weaker (Some x) f p = p
+none_weaker r f p = grind (arith, nat_tests)

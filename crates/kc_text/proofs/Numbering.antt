@@ -59,8 +59,7 @@ ten_rises (suc k) c = let s : suc k + c ≡ suc (k + c) = omega arith in rw s (o
 pub near_value : (v c : ℕ) → v < 10 ^ c → c ≤ 8 → v < 10 ^ 8
 near_value v c h l =
     let e : 8 - c + c ≡ 8 = omega arith in
-    let r : 10 ^ c ≤ 10 ^ 8 = subst (λ n. 10 ^ c ≤ 10 ^ n) e (ten_rises (8 - c) c) in
-    omega arith
+    omega (arith, subst (λ n. 10 ^ c ≤ 10 ^ n) e (ten_rises (8 - c) c))
 
 pub next_value : (v c d : ℕ) → v < 10 ^ c → d < 10 → 10 * v + d < 10 ^ (c + 1)
 next_value v c d h e = let p : 10 ^ (c + 1) ≡ 10 * 10 ^ c = rw add-one (pow-succ' 10 c) in omega arith

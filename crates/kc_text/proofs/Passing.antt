@@ -24,15 +24,13 @@ pub too_long : (limit : ℕ) (piece : List ℕ) → limit < length piece → bod
 too_long limit piece h = grind (arith, nat_tests)
 
 last_long : (limit n : ℕ) (piece : List ℕ) → limit < length piece → last_of limit n piece ≡ record { number = n; body = TooLong } ∷ record { number = n + 1; body = End } ∷ []
-last_long limit n [] h = absurd (omega arith)
-last_long limit n (x ∷ xs) h = rw (too_long limit (x ∷ xs) h) refl
+last_long limit n piece h = grind (arith, nat_tests, too_long)
 
 pub over_same : (limit n room : ℕ) (piece other bs : List ℕ) → limit < length piece → limit < length other → lines_from limit n room piece bs ≡ lines_from limit n room other bs
 unfolding lines_from
 over_same limit n room piece other [] p q = last_long limit n piece p ∙ sym (last_long limit n other q)
 over_same limit n zero piece other (b ∷ bs) p q = refl
-over_same limit n (suc room) piece other (b ∷ bs) p q =
-    rw (too_long limit piece p, too_long limit other q, over_same limit n room (piece ++ b ∷ []) (other ++ b ∷ []) bs (simp length-append (omega arith)) (simp length-append (omega arith))) refl
+over_same limit n (suc room) piece other (b ∷ bs) p q = grind (arith, nat_tests, over_same limit n room (piece ++ b ∷ []) (other ++ b ∷ []) bs (simp length-append (omega arith)) (simp length-append (omega arith)), too_long, length-append)
 
 -- the piece that a line's end closes
 pub line_closed : (limit n room total : ℕ) (piece c bs : List ℕ) → total ≡ length c + suc room → HasNoEnd c → lines_from limit n total piece (c ++ 10 ∷ bs) ≡ numbered_line limit n (piece ++ c) ∷ lines_from limit (n + 1) room [] bs

@@ -3,6 +3,7 @@ use Rattle.std.proofs.Common.{ℕ, ◌+◌, ◌-◌, ◌<◌, ◌≤◌, ◌≡�
 use Rattle.std.specs.List.{slice_range}
 use Rattle.std.proofs.lemmas.List.{take_more, length-drop, length-take, get_or-drop}
 use Rattle.std.proofs.Math.ListN.{drop_of_length-le}
+use Rattle.std.proofs.lemmas.Bool.Decides.{nat_tests}
 use Rattle.kc_text.specs.Words.{words, words_from, closed, is_blank, WordAt}
 
 pub words_blank : (line : List ℕ) (i : ℕ) → i < length line → is_blank (get_or line i 0) ≡ true → words (drop i line) ≡ words (drop (i + 1) line)
@@ -32,17 +33,14 @@ range_more line start i h l =
     rw (e, take_more (drop start line) (i - start) 0 (simp length-drop (omega arith)), get_or-drop, j) refl
 
 pub word_begins : (line : List ℕ) (i : ℕ) → i < length line → is_blank (get_or line i 0) ≡ false → words (drop i line) ≡ words_from (slice_range line i (i + 1)) (drop (i + 1) line)
-word_begins line i h e =
-    let z : i - i ≡ 0 = omega arith in
-    rw (range_more line i i (omega arith) h, z) (word_more [] line i h e)
+word_begins line i h e = grind (arith, nat_tests, range_more, word_more)
 
 pub word_goes_on : (line : List ℕ) (start i : ℕ) → start ≤ i → i < length line → is_blank (get_or line i 0) ≡ false
     → words_from (slice_range line start i) (drop i line) ≡ words_from (slice_range line start (i + 1)) (drop (i + 1) line)
 word_goes_on line start i s h e = rw (range_more line start i s h) (word_more (slice_range line start i) line i h e)
 
 pub closed_some : (piece : List ℕ) (rest : List (List ℕ)) → 0 < length piece → closed piece rest ≡ piece ∷ rest
-closed_some [] rest h = absurd (omega arith)
-closed_some (x ∷ xs) rest h = refl
+closed_some piece rest h = grind (arith, nat_tests)
 
 pub length_range : (line : List ℕ) (start end : ℕ) → start < end → end ≤ length line → 0 < length (slice_range line start end)
 length_range line start end h l = simp (length-take, length-drop) (omega arith)

@@ -12,5 +12,4 @@ returns-then-is_empty-clause-same g c =
 
 pub returns-else-is_empty-clause-same : goal.returns-else-is_empty-clause-same
 returns-else-is_empty-clause-same g c =
-    let f = c.in_ok-fill.ensures in
-    rw (← c.self.view_is) (filled _ _ _ _ _ _ _ _ _ (ap (λ r. r.ready) c.self.view_is ∙ c.requires.ready) (ap (λ r. r.ended) c.self.view_is ∙ c.requires.ended) f.given)
+    rw (← c.self.view_is) (filled _ _ _ _ _ _ _ _ _ (ap (λ r. r.ready) c.self.view_is ∙ c.requires.ready) (ap (λ r. r.ended) c.self.view_is ∙ c.requires.ended) c.in_ok-fill.ensures.given)

@@ -1,4 +1,4 @@
-use Rattle.std.proofs.Common.{sym, arith}
+use Rattle.std.proofs.Common.{arith}
 use Rattle.std.proofs.lemmas.List.{nil_from_length, take_min}
 use Rattle.kc_text.proofs.scanner.Scanner.ready_lines.Goals as goal
 
