@@ -1,6 +1,7 @@
 -- One vertex of a certificate, by the counts of its neighbours.
-use Rattle.std.proofs.Common.{ℕ, zero, suc, ◌-◌, ◌<◌, ◌≤◌, ◌≡◌, List, get_or, leb, refl, ◌∙◌, arith}
+use Rattle.std.proofs.Common.{ℕ, ◌-◌, ◌<◌, ◌≤◌, ◌≡◌, List, get_or, leb, refl, ◌∙◌, arith}
 use Rattle.std.specs.Prelude.{count_by}
+use Rattle.std.proofs.lemmas.Bool.Decides.{nat_tests}
 use Rattle.kc_graph.specs.Shape.{GraphShape, neighbours_of}
 use Rattle.kc_levels.specs.declared.profile.Profile.{Profile}
 use Rattle.kc_levels.specs.Thresholds.{low, high, group_of}
@@ -24,12 +25,10 @@ pub breaks_upper : (cert : Certificate) (v level up bound : ℕ) → level ≡ g
 breaks_upper cert v level up bound l u b lt meets = let le : up ≤ bound = rw (← l, ← u, ← b) at meets in omega (arith, le, lt)
 
 held : (p : Profile) (g : GraphShape) (x : List ℕ) (v level : ℕ) → 0 < level → low p (group_of p g.vertices (level - 1)) ≤ at_least g x v (level - 1) → IsHeld p g x v level
-held p g x v zero some h = absurd (omega (arith, some))
-held p g x v (suc l) some h = let e : suc l - 1 ≡ l = omega arith in rw e at h
+held p g x v level some h = grind (arith, nat_tests)
 
 not_held : (p : Profile) (g : GraphShape) (x : List ℕ) (v level : ℕ) → 0 < level → at_least g x v (level - 1) < low p (group_of p g.vertices (level - 1)) → ¬ (IsHeld p g x v level)
-not_held p g x v zero some h k = absurd (omega (arith, some))
-not_held p g x v (suc l) some h k = let e : suc l - 1 ≡ l = omega arith in let lt = rw e at h in omega (arith, lt, k)
+not_held p g x v level some h k = grind (arith, nat_tests)
 
 pub meets_lower_at_zero : (cert : Certificate) (v level : ℕ) → level ≡ get_or cert.levels v 0 → level ≡ 0 → HasLower cert v
 meets_lower_at_zero cert v level l e = rw (← l, e) tt

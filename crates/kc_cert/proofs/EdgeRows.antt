@@ -1,5 +1,5 @@
 -- The edges of a graph, row by row.
-use Rattle.std.proofs.Common.{ℕ, suc, ◌+◌, ◌≤◌, ◌<◌, ◌≡◌, ◌==◌, true, false, List, [], ◌∷◌, ◌++◌, map, refl, sym, ap, ◌∙◌, arith}
+use Rattle.std.proofs.Common.{ℕ, suc, ◌+◌, ◌≤◌, ◌<◌, ◌≡◌, ◌==◌, true, false, List, [], ◌∷◌, ◌++◌, map, refl, ap, arith}
 use Rattle.std.specs.Prelude.{filter, nat_le}
 use Rattle.std.proofs.lemmas.Bool.Decides.{nat_tests}
 use Rattle.kc_graph.specs.Shape.{Pair, EdgesFrom, neighbours_of}
@@ -39,6 +39,4 @@ pub last_printed : (n v : ℕ) (es : List Pair) → n ≤ v → EdgesFrom n 0 0 
 last_printed n v es le up = rw (no_edges n 0 0 v es le up) printed_none
 
 pub row_printed : (n v : ℕ) (es : List Pair) (row : List ℕ) → EdgesFrom n 0 0 es → row ≡ neighbours_of v es → printed (map edge_line (edges_from v es)) ≡ printed (row_lines v row) ++ printed (map edge_line (edges_from (v + 1) es))
-row_printed n v es row up e =
-    ap printed (edges_at n 0 0 v es up) ∙ printed_append (row_lines v (neighbours_of v es)) (map edge_line (edges_from (v + 1) es))
-    ∙ ap (λ (ws : List ℕ). printed (row_lines v ws) ++ printed (map edge_line (edges_from (v + 1) es))) (sym e)
+row_printed n v es row up e = grind (arith, nat_tests, edges_at, printed_append)

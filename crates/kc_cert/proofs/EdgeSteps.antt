@@ -1,8 +1,8 @@
 -- Edges that are read one after another.
-use Rattle.std.proofs.Common.{ℕ, suc, ◌+◌, ◌-◌, ◌<◌, ◌≤◌, ◌≡◌, Bool, true, false, List, [], ◌∷◌, ◌++◌, refl, ap, sym, ◌∙◌, arith}
+use Rattle.std.proofs.Common.{ℕ, suc, ◌+◌, ◌-◌, ◌<◌, ◌≤◌, ◌≡◌, Bool, true, false, List, [], ◌∷◌, ◌++◌, refl, ap, ◌∙◌, arith}
 use Rattle.std.specs.Prelude.{Result, Ok, Err, nat_lt, ◌&&◌, if◌then◌else◌}
 use Rattle.std.proofs.lemmas.Bool.Decides.{nat_tests}
-use Rattle.std.proofs.lemmas.List.Elements.{All-nil, All-cons}
+use Rattle.std.proofs.lemmas.List.Elements.{All-nil}
 use Rattle.kc_graph.specs.Shape.{GraphShape, Pair, IsNotBefore, EdgesFrom, has_edge, with_edges}
 use Rattle.kc_graph.specs.Changes.{AllAbsent}
 use Rattle.kc_graph.proofs.lemmas.Edges.{edges_from_at}
@@ -10,7 +10,6 @@ use Rattle.kc_graph.proofs.lemmas.Changes.{added_behind}
 use Rattle.kc_text.specs.declared.reason.Reason.{Reason}
 use Rattle.kc_text.specs.declared.reason.Reason.TheVariants.{BadLine, BadVertex}
 use Rattle.kc_cert.specs.declared.token.Kind.{Kind}
-use Rattle.kc_cert.specs.declared.token.Kind.TheVariants as kind
 use Rattle.kc_levels.specs.declared.profile.Profile.{Profile}
 use Rattle.kc_cert.specs.Documents.{Stage, AtBody, edge_of, is_next_edge, onward, stage_after}
 
@@ -21,9 +20,7 @@ pub record Fits (n a b : ℕ) (e : Pair) : Type 0 where
   pub below : e.1 < n
 
 chosen : (inside next : Bool) (p e : Pair) → (if inside then (if next then Ok p else Err BadLine) else Err BadVertex) ≡ Ok e → (inside ≡ true) × (next ≡ true) × (p ≡ e)
-chosen false next p e h = cc
-chosen true false p e h = cc
-chosen true true p e h = (refl, refl, cc)
+chosen inside next p e h = grind (arith, nat_tests)
 
 fits_pair : (n a b x y : ℕ) → (nat_lt x n && nat_lt y n) ≡ true → is_next_edge a b x y ≡ true → Fits n a b (x, y)
 fits_pair n a b x y h k = record {
@@ -33,19 +30,7 @@ fits_pair n a b x y h k = record {
 }
 
 pub edge_fits : (n a b : ℕ) (k : Kind) (e : Pair) → edge_of n a b k ≡ Ok e → Fits n a b e
-edge_fits n a b (kind.Edge x y) e h =
-    let c = chosen (nat_lt x n && nat_lt y n) (is_next_edge a b x y) (x, y) e h in
-    rw (sym c.2) (fits_pair n a b x y c.0 c.1)
-edge_fits n a b kind.Magic e h = absurd cc
-edge_fits n a b (kind.Profile p) e h = absurd cc
-edge_fits n a b (kind.Vertices m) e h = absurd cc
-edge_fits n a b (kind.EdgeCount m) e h = absurd cc
-edge_fits n a b (kind.Level v l) e h = absurd cc
-edge_fits n a b kind.Close e h = absurd cc
-edge_fits n a b kind.Other e h = absurd cc
-edge_fits n a b kind.TooLong e h = absurd cc
-edge_fits n a b kind.Limit e h = absurd cc
-edge_fits n a b kind.InputEnd e h = absurd cc
+edge_fits n a b k e h = grind (arith, nat_tests, chosen, fits_pair)
 
 -- the edges ascend, and so they do with each next one that is not before (a, b)
 pub record MayFollow (n a b : ℕ) (es : List Pair) : Type 0 where
@@ -92,8 +77,7 @@ rest_ascends n c d (e ∷ es) rest up = rest_ascends n e.0 (suc e.1) es rest up.
 -- edges that follow all others aren't among them
 pub rest_is_absent : (g : GraphShape) (es : List Pair) → EdgesFrom g.vertices 0 0 (g.edges ++ es) → AllAbsent g es
 rest_is_absent g [] up = All-nil (λ f. has_edge f g.edges ≡ false)
-rest_is_absent g (e ∷ es) up =
-    All-cons (λ f. has_edge f g.edges ≡ false) e es (absent_last g.vertices 0 0 g.edges e es up) (rest_is_absent g es (without_one g.vertices 0 0 g.edges e es up))
+rest_is_absent g (e ∷ es) up = grind (arith, nat_tests, rest_is_absent g es (without_one g.vertices 0 0 g.edges e es up), absent_last, without_one)
 
 -- and they come in after them
 pub let_in_edges : (g h : GraphShape) (es : List Pair) → EdgesFrom g.vertices 0 0 (g.edges ++ es) → h ≡ with_edges g es → h ≡ record { vertices = g.vertices; edges = g.edges ++ es }
@@ -126,6 +110,4 @@ follow_one n a b x y es fs e m f fs_is e_is =
 -- no edge is due any more
 pub all_read : (p : Profile) (g : GraphShape) (n count i a b : ℕ) (es : List Pair) → g.vertices ≡ n → g.edges ≡ es → count ≤ i
     → edges_due p (record { vertices = n; edges = es }) n count i a b ≡ AtBody (record { profile = p; graph = g; levels = [] }) 0 a b g.vertices
-all_read p g n count i a b es v e h =
-    let none : count - i ≡ 0 = omega arith in
-    rw (none, ← v, ← e) refl
+all_read p g n count i a b es v e h = grind (arith, nat_tests)

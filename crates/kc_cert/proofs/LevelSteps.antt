@@ -1,6 +1,6 @@
 -- Levels that are read one after another.
-use Rattle.std.proofs.Common.{ℕ, ◌+◌, ◌-◌, ◌≤◌, ◌<◌, ◌≡◌, ◌==◌, Bool, true, false, List, [], ◌∷◌, ◌++◌, length, take, set, get_or, refl, arith}
-use Rattle.std.specs.Prelude.{Result, Ok, Err, nat_lt, nat_le, ◌&&◌, if◌then◌else◌}
+use Rattle.std.proofs.Common.{ℕ, ◌+◌, ◌-◌, ◌≤◌, ◌<◌, ◌≡◌, Bool, true, List, [], ◌∷◌, ◌++◌, length, take, set, get_or, arith}
+use Rattle.std.specs.Prelude.{Result, Ok, Err, if◌then◌else◌}
 use Rattle.std.proofs.lemmas.Bool.Decides.{nat_tests}
 use Rattle.std.proofs.lemmas.List.{length-take, get_or-set_same, get_or-set_other}
 use Rattle.kc_graph.specs.Shape.{GraphShape}
@@ -9,29 +9,14 @@ use Rattle.kc_levels.specs.Thresholds.{top_level}
 use Rattle.kc_text.specs.declared.reason.Reason.{Reason}
 use Rattle.kc_text.specs.declared.reason.Reason.TheVariants.{BadLine, BadVertex}
 use Rattle.kc_cert.specs.declared.token.Kind.{Kind}
-use Rattle.kc_cert.specs.declared.token.Kind.TheVariants as kind
 use Rattle.kc_cert.specs.Documents.{AtBody, level_of, onward, stage_after}
 
 chosen : (inside next : Bool) (m l : ℕ) → (if inside then (if next then Ok m else Err BadLine) else Err BadVertex) ≡ Ok l → (next ≡ true) × (m ≡ l)
-chosen false next m l h = cc
-chosen true false m l h = cc
-chosen true true m l h = (refl, cc)
+chosen inside next m l h = grind (arith, nat_tests)
 
 -- a level that fits is at most the top
 pub level_fits : (n top v : ℕ) (k : Kind) (l : ℕ) → level_of n top v k ≡ Ok l → l ≤ top
-level_fits n top v (kind.Level w m) l h =
-    let c = chosen (nat_lt w n) ((w == v) && nat_le m top) m l h in
-    grind (arith, nat_tests, c.0, c.1)
-level_fits n top v kind.Magic l h = absurd cc
-level_fits n top v (kind.Profile p) l h = absurd cc
-level_fits n top v (kind.Vertices m) l h = absurd cc
-level_fits n top v (kind.EdgeCount m) l h = absurd cc
-level_fits n top v (kind.Edge a b) l h = absurd cc
-level_fits n top v kind.Close l h = absurd cc
-level_fits n top v kind.Other l h = absurd cc
-level_fits n top v kind.TooLong l h = absurd cc
-level_fits n top v kind.Limit l h = absurd cc
-level_fits n top v kind.InputEnd l h = absurd cc
+level_fits n top v k l h = grind (arith, nat_tests, chosen)
 
 -- the stage after the level of vertex v
 pub level_step : (p : Profile) (g : GraphShape) (xs : List ℕ) (a b v n top : ℕ) (k : Kind) (x : Result ℕ Reason) → n ≡ g.vertices → top ≡ top_level p g.vertices → length xs ≡ n → v < n → x ≡ level_of n top v k

@@ -9,7 +9,6 @@ use Rattle.std.proofs.lemmas.List.Folds.{list_all-append}
 use Rattle.kc_graph.specs.declared.limits.TheConstants.{MAX_VERTICES, MAX_EDGES}
 use Rattle.kc_graph.specs.Shape.{GraphShape, Pair, IsNotBefore, EdgesFrom}
 use Rattle.kc_levels.specs.declared.profile.Profile.{Profile}
-use Rattle.kc_levels.specs.declared.profile.Profile.TheVariants.{One, Two}
 use Rattle.kc_levels.specs.Thresholds.{top_level}
 use Rattle.kc_levels.proofs.lemmas.Thresholds.{top_is_low}
 use Rattle.kc_text.specs.declared.line.Line.{Line}
@@ -58,8 +57,7 @@ level_turn : (p : Profile) (g : GraphShape) (before : List ℕ) (a b due v l : �
 level_turn p g before a b due v l e lt le = grind (arith, nat_tests, and_from, le-leb)
 
 top_small : (p : Profile) (n : ℕ) → n ≤ MAX_VERTICES → top_level p n ≤ 16769
-top_small One n h = let t = top_is_low.one n h in omega (arith, t)
-top_small Two n h = top_is_low.two n h
+top_small p n h = grind (arith, nat_tests, top_is_low)
 
 no_line : (s : Stage) (n : ℕ) (end : List Line) → read_from s (tokens (lines_of_words n [] ++ end)) ≡ read_from s (tokens end)
 unfolding lines_of_words
@@ -122,9 +120,7 @@ level_lines_print limit v n top (l ∷ ls) big s small t h =
 
 edge_lines_print : (limit n a b : ℕ) (es : List Pair) → 32 ≤ limit → n ≤ MAX_VERTICES → EdgesFrom n a b es → list_all (is_line limit) (map edge_line es) ≡ true
 edge_lines_print limit n a b [] big small up = refl
-edge_lines_print limit n a b (e ∷ es) big small up =
-    and_from _ _ (says_line limit _ (kind.Edge e.0 e.1) big (says_edge e.0 e.1 (omega (arith, up.1, up.2, small)) (omega (arith, up.2, small))))
-    (edge_lines_print limit n e.0 (suc e.1) es big small up.3)
+edge_lines_print limit n a b (e ∷ es) big small up = grind (arith, nat_tests, edge_lines_print limit n e.0 (suc e.1) es big small up.3, and_from, says_line, says_edge, up.1, up.2, up.3)
 
 head_lines_print : (limit : ℕ) (cert : Certificate) → 32 ≤ limit → IsCertificate cert → list_all (is_line limit) (head_lines cert.profile cert.graph) ≡ true
 head_lines_print limit cert big h = grind (arith, nat_tests, and_from, says_line, says_magic, says_profile, says_vertices, says_count, h.small, h.few)

@@ -3,8 +3,8 @@ use Rattle.std.proofs.Common.{ℕ, ◌≤◌, ◌<◌, ◌≡◌, ◌^◌, true,
 use Rattle.std.specs.Prelude.{decimal, codes}
 use Rattle.std.specs.List.{list_all, join_with_byte}
 use Rattle.std.proofs.lemmas.Bool.{and_from, le-leb}
+use Rattle.std.proofs.lemmas.Bool.Decides.{nat_tests}
 use Rattle.kc_levels.specs.declared.profile.Profile.{Profile}
-use Rattle.kc_levels.specs.declared.profile.Profile.TheVariants.{One, Two}
 use Rattle.kc_text.specs.Words.{is_skip}
 use Rattle.kc_text.specs.Printing.{is_word, is_line}
 use Rattle.kc_text.proofs.lemmas.Printing.{numbers_are_read_back}
@@ -30,8 +30,7 @@ says_magic = record { words_are = refl; short = omega arith; said = refl; kind_i
 
 pub says_profile : (p : Profile) → Says (codes "profile" ∷ profile_word p ∷ []) (kind.Profile p)
 unfolding kind_of_words only_word
-says_profile One = record { words_are = refl; short = omega arith; said = refl; kind_is = refl }
-says_profile Two = record { words_are = refl; short = omega arith; said = refl; kind_is = refl }
+says_profile p = grind (arith, nat_tests)
 
 pub says_end : Says (codes "end" ∷ []) kind.Close
 unfolding kind_of_words

@@ -1,13 +1,12 @@
 -- What lines say, where the lines are told or not.
-use Rattle.std.proofs.Common.{ℕ, ◌≡◌, ◌∙◌, Bool, true, false, List, [], ◌∷◌, refl, sym, ap, subst}
+use Rattle.std.proofs.Common.{ℕ, ◌≡◌, Bool, true, List, [], ◌∷◌, refl, subst, arith}
 use Rattle.std.specs.Prelude.{Option, Some, None, ◌&&◌, if◌then◌else◌, codes}
 use Rattle.std.specs.Str.{bytes_eq}
 use Rattle.std.specs.Option.{option_map}
 use Rattle.std.proofs.lemmas.Option.{same_Some}
-use Rattle.kc_levels.specs.declared.profile.Profile.{Profile}
+use Rattle.std.proofs.lemmas.Bool.Decides.{nat_tests}
 use Rattle.kc_text.specs.declared.line.Line.{Line}
 use Rattle.kc_text.specs.declared.line.Body.{Body}
-use Rattle.kc_text.specs.declared.line.Body.TheVariants as body
 use Rattle.kc_text.specs.Reading.{onto, behind}
 use Rattle.kc_text.specs.Words.{words, is_skip}
 use Rattle.kc_text.specs.Kept.{is_skipped, kept}
@@ -22,12 +21,10 @@ abbrev pub GoesOn : Kind → Type 0
 GoesOn k = (rest : List Token) → behind_kind k rest ≡ rest
 
 if_goes_on : (b : Bool) (j k : Kind) → GoesOn j → GoesOn k → GoesOn (if b then j else k)
-if_goes_on true j k p q = p
-if_goes_on false j k p q = q
+if_goes_on b j k p q = grind (arith, nat_tests)
 
 by_goes_on : {T : Type 0} (f : T → Kind) (o : Option T) → ((x : T) → GoesOn (f x)) → GoesOn (kind_by f o)
-by_goes_on f None h rest = refl
-by_goes_on f (Some x) h rest = h x rest
+by_goes_on f o h rest = grind (arith, nat_tests)
 
 words_go_on : (ws : List (List ℕ)) → GoesOn (kind_of_words ws)
 unfolding kind_of_words
@@ -47,8 +44,7 @@ words_go_on (name ∷ ws) =
     (if_goes_on (bytes_eq name (codes "end") && is_nothing ws) kind.Close kind.Other (λ rest. refl) (λ rest. refl)))))))
 
 chosen : (skips : Bool) (j k : Kind) → (if skips then None else Some j) ≡ Some k → j ≡ k
-chosen true j k e = absurd cc
-chosen false j k e = same_Some _ _ e
+chosen skips j k e = grind (arith, nat_tests, same_Some)
 
 text_goes_on : (text : List ℕ) (k : Kind) → kind_of_text text ≡ Some k → GoesOn k
 unfolding kind_of_text
@@ -57,10 +53,7 @@ text_goes_on text k e = subst GoesOn (chosen (is_skip (words text)) (kind_of_wor
 -- what follows a line that says something
 tokens_behind : (b : Body) (k : Kind) (rest : List Line) → kind_of b ≡ Some k → tokens (behind b rest) ≡ behind_kind k (tokens rest)
 unfolding tokens
-tokens_behind (body.Text text) k rest e = sym (text_goes_on text k e (tokens rest))
-tokens_behind body.TooLong k rest e = rw (sym (same_Some _ _ e)) refl
-tokens_behind body.Limit k rest e = rw (sym (same_Some _ _ e)) refl
-tokens_behind body.End k rest e = rw (sym (same_Some _ _ e)) refl
+tokens_behind b k rest e = grind (arith, nat_tests, text_goes_on, same_Some)
 
 says : (line : Line) (k : Kind) (rest : List Line) → kind_of line.body ≡ Some k → tokens (onto line rest) ≡ onto_token (record { number = line.number; kind = k }) (tokens rest)
 unfolding tokens
@@ -68,15 +61,11 @@ says line k rest e = rw (e, tokens_behind line.body k rest e) refl
 
 skipped_says : (b : Body) → is_skipped b ≡ true → kind_of b ≡ None
 unfolding kind_of_text
-skipped_says (body.Text text) e = rw e refl
-skipped_says body.TooLong e = absurd cc
-skipped_says body.Limit e = absurd cc
-skipped_says body.End e = absurd cc
+skipped_says b e = grind (arith, nat_tests)
 
 tokens_kept_on : (skips : Bool) (line : Line) (rest ks : List Line) → is_skipped line.body ≡ skips → tokens ks ≡ tokens rest → tokens (if skips then ks else line ∷ ks) ≡ tokens (line ∷ rest)
 unfolding tokens
-tokens_kept_on true line rest ks e h = rw (skipped_says line.body e, h) refl
-tokens_kept_on false line rest ks e h = rw h refl
+tokens_kept_on skips line rest ks e h = grind (arith, nat_tests, skipped_says)
 
 -- the lines that are skipped say nothing
 tokens_kept : (ls : List Line) → tokens (kept ls) ≡ tokens ls
@@ -84,18 +73,14 @@ tokens_kept [] = refl
 tokens_kept (line ∷ rest) = tokens_kept_on (is_skipped line.body) line rest (kept rest) refl (tokens_kept rest)
 
 told_tokens_kept : (ls : Option (List Line)) → option_map tokens (option_map kept ls) ≡ option_map tokens ls
-told_tokens_kept None = refl
-told_tokens_kept (Some ls) = ap Some (tokens_kept ls)
+told_tokens_kept ls = grind (arith, nat_tests, tokens_kept)
 
 -- a line that says something is the next token
 pub told_token : (line : Line) (k : Kind) (old new : Option (List Line)) → kind_of line.body ≡ Some k → old ≡ option_map (onto line) new
     → option_map tokens old ≡ option_map (onto_token (record { number = line.number; kind = k })) (option_map tokens new)
-told_token line k old None e h = rw h refl
-told_token line k old (Some rest) e h = rw h (ap Some (says line k rest e))
+told_token line k old new e h = grind (arith, nat_tests, says)
 
 -- the same for the next of the lines that aren't skipped
 pub told_kept_token : (line : Line) (k : Kind) (old new : Option (List Line)) → kind_of line.body ≡ Some k → option_map kept old ≡ option_map (onto line) (option_map kept new)
     → option_map tokens old ≡ option_map (onto_token (record { number = line.number; kind = k })) (option_map tokens new)
-told_kept_token line k old new e h =
-    sym (told_tokens_kept old) ∙ told_token line k (option_map kept old) (option_map kept new) e h
-    ∙ ap (option_map (onto_token (record { number = line.number; kind = k }))) (told_tokens_kept new)
+told_kept_token line k old new e h = grind (arith, nat_tests, told_tokens_kept, told_token)

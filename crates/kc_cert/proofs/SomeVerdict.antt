@@ -1,10 +1,10 @@
 -- Each certificate has a verdict.
-use Rattle.std.proofs.Common.{ℕ, zero, suc, ◌≤◌, ◌<◌, ◌⊎◌, inl, inr, get_or, refl, arith}
+use Rattle.std.proofs.Common.{ℕ, zero, suc, ◌≤◌, ◌<◌, ◌⊎◌, inl, inr, get_or, arith}
 use Rattle.std.proofs.lemmas.Bool.Decides.{nat_tests}
 use Rattle.kc_levels.specs.LevelList.{IsHeld}
 use Rattle.kc_cert.specs.declared.certificate.Certificate.{Certificate}
 use Rattle.kc_cert.specs.declared.verdict.Verdict.{Verdict}
-use Rattle.kc_cert.specs.declared.verdict.Verdict.TheVariants.{Certified, Upper, Lower}
+use Rattle.kc_cert.specs.declared.verdict.Verdict.TheVariants.{Upper, Lower}
 use Rattle.kc_cert.specs.Laws.{HasVerdict, VerdictIsCertified}
 use Rattle.kc_cert.specs.Verdicts.{HasUpper, HasLower, IsVerdict}
 
@@ -12,8 +12,7 @@ has_upper : (cert : Certificate) (v : ℕ) → HasUpper cert v ⊎ ¬ (HasUpper 
 has_upper cert v = grind (arith, nat_tests)
 
 held : (cert : Certificate) (v l : ℕ) → IsHeld cert.profile cert.graph cert.levels v l ⊎ ¬ (IsHeld cert.profile cert.graph cert.levels v l)
-held cert v zero = inl tt
-held cert v (suc l) = grind (arith, nat_tests)
+held cert v l = grind (arith, nat_tests)
 
 has_lower : (cert : Certificate) (v : ℕ) → HasLower cert v ⊎ ¬ (HasLower cert v)
 has_lower cert v = held cert v (get_or cert.levels v 0)
@@ -41,12 +40,7 @@ below cert (suc k) le = elim (below cert k (omega (arith, le))) [
 ]
 
 pub has_verdict : HasVerdict
-has_verdict cert = elim (below cert cert.graph.vertices (omega arith)) [
-  | inr found ↦ found
-  | inl meet ↦ (Certified, record { upper = meet.upper; lower = meet.lower })
-]
+has_verdict cert = grind (arith, nat_tests, below cert cert.graph.vertices (omega arith), below, cert.graph.vertices)
 
 pub verdict_is_certified : VerdictIsCertified
-verdict_is_certified cert Certified both h = refl
-verdict_is_certified cert (Upper v) both h = absurd (h.breaks (both.upper v h.vertex))
-verdict_is_certified cert (Lower v) both h = absurd (h.breaks (both.lower v h.vertex))
+verdict_is_certified cert it both h = grind (arith, nat_tests)

@@ -1,8 +1,9 @@
 -- One line of a certificate, and what the lines say after it.
-use Rattle.std.proofs.Common.{ℕ, zero, suc, ◌≡◌, List, [], ◌∷◌, length, refl, sym, ap, subst, ◌∙◌}
-use Rattle.std.specs.Prelude.{Option, Some, None, Result, Ok, Err}
+use Rattle.std.proofs.Common.{ℕ, zero, suc, ◌≡◌, List, [], ◌∷◌, length, refl, sym, ap, ◌∙◌, arith}
+use Rattle.std.specs.Prelude.{Option, Result, Ok, Err}
 use Rattle.std.specs.Option.{option_map}
 use Rattle.std.proofs.lemmas.Option.{same_Some}
+use Rattle.std.proofs.lemmas.Bool.Decides.{nat_tests}
 use Rattle.kc_levels.specs.Thresholds.{top_level}
 use Rattle.kc_text.specs.declared.document_fault.DocumentFault.{DocumentFault}
 use Rattle.kc_text.specs.declared.document_fault.DocumentFault.TheVariants as fault
@@ -12,7 +13,7 @@ use Rattle.kc_cert.specs.declared.token.Token.{Token}
 use Rattle.kc_cert.specs.declared.token.Kind.{Kind}
 use Rattle.kc_cert.specs.declared.token.Kind.TheVariants as kind
 use Rattle.kc_cert.specs.private.Tokens.{onto_token}
-use Rattle.kc_cert.specs.Documents.{Stage, AtMagic, AtProfile, AtVertices, AtEdgeCount, AtBody, AtInputEnd, Done, Accepted, Refused, with_last_level, level_of, input_end_of, onward, stage_after, act, read_from}
+use Rattle.kc_cert.specs.Documents.{Stage, AtMagic, AtBody, AtInputEnd, Done, Accepted, Refused, with_last_level, level_of, input_end_of, onward, stage_after, act, read_from}
 use Rattle.kc_cert.specs.private.Reads.{Answers, Fits}
 use Rattle.kc_cert.proofs.Saying.{GoesOn}
 
@@ -30,40 +31,14 @@ unfolding stage_of
 same_stage s s' r e f = ap stage_of (sym e ∙ f)
 
 no_limit : (s s' : Stage) → stage_after s kind.Limit ≡ Ok s' → ⊥
-no_limit AtMagic s' e = cc
-no_limit AtProfile s' e = cc
-no_limit (AtVertices p) s' e = cc
-no_limit (AtEdgeCount p n) s' e = cc
-no_limit (AtBody cert zero a b zero) s' e = cc
-no_limit (AtBody cert zero a b (suc levels)) s' e = cc
-no_limit (AtBody cert (suc edges) a b levels) s' e = cc
-no_limit (AtInputEnd cert) s' e = cc
-no_limit (Done cert) s' e = cc
+no_limit s s' e = grind (arith, nat_tests)
 
 no_input_end : (s s' : Stage) → stage_after s kind.InputEnd ≡ Ok s' → IsOpen s' → ⊥
-no_input_end AtMagic s' e h = cc
-no_input_end AtProfile s' e h = cc
-no_input_end (AtVertices p) s' e h = cc
-no_input_end (AtEdgeCount p n) s' e h = cc
-no_input_end (AtBody cert zero a b zero) s' e h = cc
-no_input_end (AtBody cert zero a b (suc levels)) s' e h = cc
-no_input_end (AtBody cert (suc edges) a b levels) s' e h = cc
-no_input_end (AtInputEnd cert) s' e h = subst IsOpen (sym (same_stage (Done cert) s' _ refl e)) h
-no_input_end (Done cert) s' e h = cc
+no_input_end s s' e h = grind (arith, nat_tests, same_stage)
 
 -- a line after which another is due isn't the last
 goes_on : (s s' : Stage) (k : Kind) → stage_after s k ≡ Ok s' → IsOpen s' → GoesOn k
-goes_on s s' kind.Magic e h rest = refl
-goes_on s s' (kind.Profile p) e h rest = refl
-goes_on s s' (kind.Vertices n) e h rest = refl
-goes_on s s' (kind.EdgeCount m) e h rest = refl
-goes_on s s' (kind.Edge a b) e h rest = refl
-goes_on s s' (kind.Level v l) e h rest = refl
-goes_on s s' kind.Close e h rest = refl
-goes_on s s' kind.Other e h rest = refl
-goes_on s s' kind.TooLong e h rest = refl
-goes_on s s' kind.Limit e h rest = absurd (no_limit s s' e)
-goes_on s s' kind.InputEnd e h rest = absurd (no_input_end s s' e h)
+goes_on s s' k e h rest = grind (arith, nat_tests, no_limit, no_input_end)
 
 -- a line that fits
 pub reads_on : (s s' : Stage) (t : Token) (rest : List Token) → stage_after s t.kind ≡ Ok s' → IsOpen s' → read_from s (onto_token t rest) ≡ read_from s' rest
@@ -71,14 +46,11 @@ unfolding read_from
 reads_on s s' t rest e h = rw (e, goes_on s s' t.kind e h rest) refl
 
 pub reaches_on : (s s' : Stage) (t : Token) (old new : Option (List Token)) → stage_after s t.kind ≡ Ok s' → IsOpen s' → old ≡ option_map (onto_token t) new → option_map (read_from s) old ≡ option_map (read_from s') new
-reaches_on s s' t old None e h told = rw told refl
-reaches_on s s' t old (Some rest) e h told = rw told (ap Some (reads_on s s' t rest e h))
+reaches_on s s' t old new e h told = grind (arith, nat_tests, reads_on)
 
 -- the result of the lines from a later stage on
 pub answers_before : (s s' : Stage) (old new : Option (List Token)) (r : Result Certificate DocumentFault) → option_map (read_from s) old ≡ option_map (read_from s') new → Answers s' new r → Answers s old r
-answers_before s s' None new r e a = tt
-answers_before s s' (Some ts) None r e a = absurd cc
-answers_before s s' (Some ts) (Some rest) r e a = rw (same_Some _ _ e) a
+answers_before s s' old new r e a = grind (arith, nat_tests, same_Some)
 
 refused : (s : Stage) (t : Token) (rest : List Token) (reason : Reason) → stage_after s t.kind ≡ Err reason → read_from s (onto_token t rest) ≡ Refused t.number reason
 unfolding read_from
@@ -86,19 +58,15 @@ refused s t rest reason e = rw e refl
 
 -- a line that doesn't fit
 pub answers_refused : (s : Stage) (t : Token) (old new : Option (List Token)) (reason : Reason) → stage_after s t.kind ≡ Err reason → old ≡ option_map (onto_token t) new → Answers s old (Err (fault.Refused t.number reason))
-answers_refused s t old None reason e told = rw told tt
-answers_refused s t old (Some rest) reason e told = rw told (refused s t rest reason e)
+answers_refused s t old new reason e told = grind (arith, nat_tests, refused)
 
 pub answers_misfit : {T : Type 0} (s : Stage) (next : T → Stage) (t : Token) (old new : Option (List Token)) (found : Result T Reason) (f : DocumentFault) → stage_after s t.kind ≡ onward next found → old ≡ option_map (onto_token t) new → Fits t.number found (Err f)
     → Answers s old (Err f)
-answers_misfit s next t old new found (fault.Refused line reason) e told h = rw h.0 (answers_refused s t old new reason (e ∙ ap (onward next) h.1) told)
-answers_misfit s next t old new found fault.ReadFault e told h = absurd h
-answers_misfit s next t old new found (fault.Memory m) e told h = absurd h
+answers_misfit s next t old new found f e told h = grind (arith, nat_tests, answers_refused)
 
 after_level : (cert : Certificate) (a b levels number : ℕ) (rest : List Token) (x : Result ℕ Reason) → ((c : Certificate) → read_from (AtBody c zero a b levels) rest ≡ read_from (AtBody c zero 0 0 levels) rest)
     → act number (onward (λ l. AtBody (with_last_level cert l) zero a b levels) x) (λ next. read_from next rest) ≡ act number (onward (λ l. AtBody (with_last_level cert l) zero 0 0 levels) x) (λ next. read_from next rest)
-after_level cert a b levels number rest (Ok l) h = h (with_last_level cert l)
-after_level cert a b levels number rest (Err reason) h = refl
+after_level cert a b levels number rest x h = grind (arith, nat_tests)
 
 no_edge_due : (cert : Certificate) (a b levels : ℕ) (ts : List Token) → read_from (AtBody cert zero a b levels) ts ≡ read_from (AtBody cert zero 0 0 levels) ts
 unfolding read_from
@@ -109,21 +77,10 @@ no_edge_due cert a b (suc levels) (t ∷ rest) =
 
 -- after the last edge it doesn't matter which edge could follow
 pub all_edges_read : (cert : Certificate) (a b levels : ℕ) (told : Option (List Token)) → option_map (read_from (AtBody cert 0 a b levels)) told ≡ option_map (read_from (AtBody cert 0 0 0 levels)) told
-all_edges_read cert a b levels None = refl
-all_edges_read cert a b levels (Some ts) = ap Some (no_edge_due cert a b levels ts)
+all_edges_read cert a b levels told = grind (arith, nat_tests, no_edge_due)
 
 ends_input : (k : Kind) (u : Unit {0}) → input_end_of k ≡ Ok u → k ≡ kind.InputEnd
-ends_input kind.Magic u e = cc
-ends_input (kind.Profile p) u e = cc
-ends_input (kind.Vertices n) u e = cc
-ends_input (kind.EdgeCount m) u e = cc
-ends_input (kind.Edge a b) u e = cc
-ends_input (kind.Level v l) u e = cc
-ends_input kind.Close u e = cc
-ends_input kind.Other u e = cc
-ends_input kind.TooLong u e = cc
-ends_input kind.Limit u e = cc
-ends_input kind.InputEnd u e = refl
+ends_input k u e = grind (arith, nat_tests)
 
 accepted : (cert : Certificate) (t : Token) (rest : List Token) → t.kind ≡ kind.InputEnd → read_from (AtInputEnd cert) (onto_token t rest) ≡ Accepted cert
 unfolding read_from
@@ -131,5 +88,4 @@ accepted cert t rest e = rw e refl
 
 -- the end of the input after `end`
 pub answers_accepted : (cert : Certificate) (t : Token) (old new : Option (List Token)) (u : Unit {0}) → input_end_of t.kind ≡ Ok u → old ≡ option_map (onto_token t) new → Answers (AtInputEnd cert) old (Ok cert)
-answers_accepted cert t old None u e told = rw told tt
-answers_accepted cert t old (Some rest) u e told = rw told (accepted cert t rest (ends_input t.kind u e))
+answers_accepted cert t old new u e told = grind (arith, nat_tests, accepted, ends_input)

@@ -1,8 +1,9 @@
 -- A text that is written part by part.
-use Rattle.std.proofs.Common.{ℕ, ◌≡◌, List, [], ◌++◌, refl, sym, ap, ◌∙◌, append_assoc}
+use Rattle.std.proofs.Common.{ℕ, ◌≡◌, List, [], ◌++◌, refl, sym, ap, ◌∙◌, append_assoc, arith}
 use Rattle.std.specs.Prelude.{Option, Result, Ok, Err}
 use Rattle.std.specs.Io.KnownBytes.{append_known}
 use Rattle.std.proofs.lemmas.List.{append-nil}
+use Rattle.std.proofs.lemmas.Bool.Decides.{nat_tests}
 use Rattle.kc_text.specs.declared.buf.SendFault.{SendFault}
 use Rattle.kc_text.specs.Writing.{IsPrefix, Appends}
 use Rattle.kc_text.proofs.lemmas.Writing.{append_none, append_twice, prefix_then, prefix_longer}
@@ -26,15 +27,11 @@ writes_on before now later text part rest rest' e w t = record {
 
 -- a prefix of the next part was taken
 pub writes_fault : (before now later : Option (List ℕ)) (text part rest rest' : List ℕ) → rest ≡ part ++ rest' → Writes before now text rest → IsPrefix now later part → IsPrefix before later text
-writes_fault before now later text part rest rest' e w p =
-    let all : text ≡ w.said ++ (part ++ rest') = w.whole ∙ ap (λ (xs : List ℕ). w.said ++ xs) e in
-    rw all (prefix_then before now later w.said (part ++ rest') w.taken (prefix_longer now later part rest' p))
+writes_fault before now later text part rest rest' e w p = grind (arith, nat_tests, prefix_then, prefix_longer, w.said, w.whole, w.taken)
 
 -- nothing is left
 pub writes_end : (before now : Option (List ℕ)) (text rest : List ℕ) → rest ≡ [] → Writes before now text rest → now ≡ append_known before text
-writes_end before now text rest e w =
-    let all : text ≡ w.said = w.whole ∙ ap (λ (xs : List ℕ). w.said ++ xs) e ∙ append-nil w.said in
-    w.taken ∙ ap (append_known before) (sym all)
+writes_end before now text rest e w = grind (arith, nat_tests, append-nil, w.said, w.whole, w.taken)
 
 -- the last part, as far as the result says
 pub writes_last : {T : Type 0} → (before now later : Option (List ℕ)) (text part rest : List ℕ) (result : Result T SendFault) → rest ≡ part → Writes before now text rest → Appends now later part result → Appends before later text result

@@ -35,8 +35,7 @@ pub returns-clause-head : goal.returns-clause-head
 returns-clause-head g c =
     let p = c.in_ok-profile.profile in
     let n = c.in_ok-n.n in
-    let m = c.in_ok-edges.edges in
     reaches_on AtMagic AtProfile c.in_ok-first.first _ _ (ap (onward (λ u. AtProfile)) (sym c.magic_of.ensures ∙ c.in_ok-fit_at.ensures.fits)) tt c.in_ok-first.ensures.token
     ∙ reaches_on AtProfile (AtVertices p) c.in_ok-second.second _ _ (ap (onward (λ q. AtVertices q)) (sym c.profile_of.ensures ∙ c.in_ok-profile.ensures.fits)) tt c.in_ok-second.ensures.token
     ∙ reaches_on (AtVertices p) (AtEdgeCount p n) c.in_ok-third.third _ _ (ap (onward (λ k. AtEdgeCount p k)) (sym c.vertices_of.ensures.number ∙ c.in_ok-n.ensures.fits)) tt c.in_ok-third.ensures.token
-    ∙ reaches_on (AtEdgeCount p n) (AtBody (empty_certificate p n) m 0 0 n) c.in_ok-fourth.fourth _ _ (ap (onward (λ k. AtBody (empty_certificate p n) k 0 0 n)) (sym c.edge_count_of.ensures.number ∙ c.in_ok-edges.ensures.fits)) tt c.in_ok-fourth.ensures.token
+    ∙ reaches_on (AtEdgeCount p n) (AtBody (empty_certificate p n) c.in_ok-edges.edges 0 0 n) c.in_ok-fourth.fourth _ _ (ap (onward (λ k. AtBody (empty_certificate p n) k 0 0 n)) (sym c.edge_count_of.ensures.number ∙ c.in_ok-edges.ensures.fits)) tt c.in_ok-fourth.ensures.token

@@ -19,9 +19,8 @@ returns-in_err-level-clause-levels g c =
 
 pub returns-clause-levels : goal.returns-clause-levels
 returns-clause-levels g c =
-    let n = c.vertices-n.result in
     let v = c.loop-v.v in
-    let none : n - v ≡ 0 = omega (arith, c.loop-v-test.false) in
+    let none : c.vertices-n.result - v ≡ 0 = omega (arith, c.loop-v-test.false) in
     let all : take v c.loop-v.levels ≡ c.loop-v.levels = take_all v c.loop-v.levels (omega (arith, c.loop-v-test.false, c.loop-v.invariant.sized)) in
     rw (none, all) at c.loop-v.invariant.same
 
