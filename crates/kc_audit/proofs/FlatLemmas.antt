@@ -4,9 +4,9 @@ use Rattle.std.specs.Prelude.{Some, slice_get}
 use Rattle.std.specs.List.{slice_range}
 use Rattle.std.proofs.lemmas.List.{take-append-le, drop-append-le, take_all}
 use Rattle.std.proofs.Math.Seq.{drop-append_seam}
+use Rattle.std.proofs.lemmas.Bool.Decides.{nat_tests}
 use Rattle.kc_history.specs.declared.replies.Reply.{Reply}
 use Rattle.kc_audit.specs.declared.flat.Head.{Head}
-use Rattle.kc_audit.specs.declared.groups.GroupLine.{GroupLine}
 use Rattle.kc_audit.specs.Flat.{lines_from, EndFrom}
 use Rattle.kc_audit.specs.private.Flat.{start_of}
 
@@ -61,17 +61,13 @@ range_front ms new from to a b =
     length-dropped = Rattle.std.proofs.lemmas.List.length-drop from ms
 
 range_back : (ms new : List Reply) (from to : ℕ) → from ≡ length ms → to ≡ length ms + length new → slice_range (ms ++ new) from to ≡ new
-range_back ms new from to a b =
-    let whole : length new ≤ to - from = omega (arith, a, b) in
-    ap (λ (i : ℕ). take (to - from) (drop i (ms ++ new))) a ∙ (ap (λ (xs : List Reply). take (to - from) xs) (drop-append_seam ms new) ∙ take_all (to - from) new whole)
+range_back ms new from to a b = grind (arith, nat_tests, drop-append_seam, take_all)
 
 -- a line at the end
 pub lines_push : (from : ℕ) (hs : List Head) (ms : List Reply) (h : Head) (new : List Reply) → EndFrom from hs (length ms) → h.end ≡ length ms + length new
     → lines_from from (hs ++ h ∷ []) (ms ++ new) ≡ lines_from from hs ms ++ record { phase = h.phase; label = h.label; members = new } ∷ []
 lines_push from [] ms h new e to = ap (λ (m : List Reply). record { phase = h.phase; label = h.label; members = m } ∷ []) (range_back ms new from h.end e to)
-lines_push from (x ∷ hs) ms h new e to =
-    ap (λ (m : List Reply). record { phase = x.phase; label = x.label; members = m } ∷ lines_from x.end (hs ++ h ∷ []) (ms ++ new)) (range_front ms new from x.end e.0 (end_above x.end hs (length ms) e.1))
-    ∙ ap (λ (ls : List GroupLine). record { phase = x.phase; label = x.label; members = slice_range ms from x.end } ∷ ls) (lines_push x.end hs ms h new e.1 to)
+lines_push from (x ∷ hs) ms h new e to = grind (arith, nat_tests, lines_push x.end hs ms h new e.1 to, range_front, end_above, e.0, e.1)
 
 pub end_push : (from : ℕ) (hs : List Head) (all : ℕ) (h : Head) (end : ℕ) → EndFrom from hs all → all ≤ h.end → h.end ≡ end → EndFrom from (hs ++ h ∷ []) end
 end_push from [] all h end e a b = (omega (arith, e, a), b)

@@ -1,14 +1,15 @@
 -- A history by its group lines.
 use Rattle.std.proofs.Common.{ℕ, zero, suc, ◌≤◌, ◌≡◌, List, [], ◌∷◌, length, take, map, replicate, get_or, refl, ap, ◌∙◌, arith}
-use Rattle.std.specs.Prelude.{All, Option, Some, None}
+use Rattle.std.specs.Prelude.{All, Option, None}
 use Rattle.std.proofs.lemmas.List.Elements.{All-head, All-tail}
+use Rattle.std.proofs.lemmas.Bool.Decides.{nat_tests}
 use Rattle.kc_levels.specs.declared.moves.Move.{Move}
 use Rattle.kc_history.specs.declared.entries.Entry.{Entry}
 use Rattle.kc_history.specs.declared.replies.Reply.{Reply}
 use Rattle.kc_history.specs.Points.{with_moves, levels_after}
 use Rattle.kc_history.specs.Replies.{IsLevelAt, AreExplained}
 use Rattle.kc_audit.specs.declared.groups.GroupLine.{GroupLine}
-use Rattle.kc_audit.specs.Runs.{moves_of, entry_of, history_of}
+use Rattle.kc_audit.specs.Runs.{moves_of, history_of}
 use Rattle.kc_audit.specs.Laws.{member_of, line_before, lines_of, IsQuietUnlessLabelled, LinesExplain}
 use Rattle.kc_audit.proofs.MoveLemmas.{length-history}
 
@@ -21,8 +22,7 @@ moved_same x [] = refl
 moved_same x (m ∷ ms) = moved_same _ ms
 
 after_line : (x : List ℕ) (e : Entry) (label : Option ℕ) (rest : List GroupLine) → (label ≡ None → e.moves ≡ []) → levels_after x (history_of (line_before e label rest)) ≡ levels_after (with_moves x e.moves) (history_of rest)
-after_line x e None rest quiet = rw (quiet refl) refl
-after_line x e (Some label) rest quiet = ap (λ (y : List ℕ). levels_after y (history_of rest)) (moved_same x e.moves)
+after_line x e label rest quiet = grind (arith, nat_tests, moved_same)
 
 after_lines : (x : List ℕ) (es : List Entry) → All IsQuietUnlessLabelled es → levels_after x (history_of (lines_of es)) ≡ levels_after x es
 after_lines x [] q = refl
@@ -30,8 +30,7 @@ after_lines x (e ∷ es) q = after_line x e e.label (lines_of es) (All-head IsQu
 
 take_line : (e : Entry) (label : Option ℕ) (some all : List GroupLine) → take (length some) (history_of all) ≡ history_of some
     → take (length (line_before e label some)) (history_of (line_before e label all)) ≡ history_of (line_before e label some)
-take_line e None some all h = h
-take_line e (Some label) some all h = ap (λ (es : List Entry). entry_of (record { phase = e.phase; label = label; members = map member_of e.moves }) ∷ es) h
+take_line e label some all h = grind (arith, nat_tests)
 
 take_lines : (history : List Entry) (p : ℕ) → take (point_of history p) (history_of (lines_of history)) ≡ history_of (lines_of (take p history))
 take_lines history zero = refl
@@ -39,8 +38,7 @@ take_lines [] (suc p) = refl
 take_lines (e ∷ es) (suc p) = take_line e e.label (lines_of (take p es)) (lines_of es) (take_lines es p)
 
 longer_line : (e : Entry) (label : Option ℕ) (some all : List GroupLine) → length some ≤ length all → length (line_before e label some) ≤ length (line_before e label all)
-longer_line e None some all h = h
-longer_line e (Some label) some all h = omega (arith, h)
+longer_line e label some all h = grind (arith, nat_tests)
 
 points_rise : (history : List Entry) (p q : ℕ) → p ≤ q → point_of history p ≤ point_of history q
 points_rise history zero q h = omega arith

@@ -1,5 +1,5 @@
 -- Pairs that are printed are read back.
-use Rattle.std.proofs.Common.{ℕ, zero, suc, ◌+◌, ◌^◌, ◌≤◌, ◌<◌, ◌≡◌, Bool, true, false, ◌&&◌, List, [], ◌∷◌, ◌++◌, length, get_or, refl, arith, length-append}
+use Rattle.std.proofs.Common.{ℕ, zero, suc, ◌^◌, ◌≤◌, ◌<◌, ◌≡◌, Bool, true, false, List, [], ◌∷◌, ◌++◌, length, get_or, refl, arith, length-append}
 use Rattle.std.specs.Prelude.{Some, None, nat_le, nat_lt, ◌==◌, if◌then◌else◌}
 use Rattle.std.specs.List.{list_all, position_or_len}
 use Rattle.std.proofs.lemmas.Bool.Decides.{nat_tests}
@@ -7,7 +7,7 @@ use Rattle.std.proofs.lemmas.List.{get_or_append_left}
 use Rattle.std.proofs.lemmas.List.Sums.{position_or_len_is}
 use Rattle.std.proofs.Math.Seq.{get_or-append_seam, drop-append-add, take-append_seam}
 use Rattle.std.proofs.lemmas.Bool.{and_parts}
-use Rattle.kc_text.specs.Numbers.{is_digit, is_number, number_of, value_from}
+use Rattle.kc_text.specs.Numbers.{is_digit, number_of}
 use Rattle.kc_text.proofs.lemmas.Printing.{numbers_are_read_back}
 use Rattle.kc_history.specs.declared.replies.Reply.{Reply}
 use Rattle.kc_audit.specs.Runs.{are_below}
@@ -15,14 +15,11 @@ use Rattle.kc_audit.specs.Words.{pair_of, pairs_of}
 use Rattle.kc_audit.specs.ReadBack.{pair_word, pair_words, have_levels}
 
 is_some_number : (b : Bool) (v n : ℕ) → (if b then Some v else None) ≡ Some n → b ≡ true
-is_some_number true v n e = refl
-is_some_number false v n e = absurd cc
+is_some_number b v n e = grind (arith, nat_tests)
 
 -- what says a number has digits alone
 number_digits : (bs : List ℕ) (n : ℕ) → number_of bs ≡ Some n → list_all is_digit bs ≡ true
-number_digits bs n e =
-    let whole = and_parts (nat_lt 0 (length bs) && nat_le (length bs) 10) (list_all is_digit bs && nat_lt (value_from 0 bs) (2 ^ 32)) (is_some_number (is_number bs) (value_from 0 bs) n e) in
-    (and_parts (list_all is_digit bs) (nat_lt (value_from 0 bs) (2 ^ 32)) whole.1).0
+number_digits bs n e = grind (arith, nat_tests, and_parts, is_some_number)
 
 digit_at : (bs : List ℕ) (k : ℕ) → list_all is_digit bs ≡ true → k < length bs → is_digit (get_or bs k 0) ≡ true
 digit_at [] k e h = absurd (omega (arith, h))

@@ -1,5 +1,5 @@
 -- Printed lines say their kinds, and the lines of a run are read back from bytes.
-use Rattle.std.proofs.Common.{ℕ, ◌+◌, ◌<◌, ◌≡◌, Bool, true, false, List, [], ◌∷◌, ◌++◌, length, map, refl, sym, ap, arith, length-append}
+use Rattle.std.proofs.Common.{ℕ, ◌+◌, ◌<◌, ◌≡◌, Bool, true, List, [], ◌∷◌, ◌++◌, length, map, refl, sym, ap, arith, length-append}
 use Rattle.std.specs.Prelude.{Some, decimal, nat_lt, codes}
 use Rattle.std.specs.List.{list_all, join_with_byte}
 use Rattle.std.proofs.lemmas.Bool.Decides.{nat_tests}
@@ -7,7 +7,6 @@ use Rattle.std.proofs.lemmas.Bool.{and_parts, and_from}
 use Rattle.kc_text.specs.declared.line.Line.{Line}
 use Rattle.kc_text.specs.declared.line.Body.TheVariants as body
 use Rattle.kc_text.specs.declared.reason.Reason.{Reason}
-use Rattle.kc_text.specs.declared.reason.Reason.TheVariants as reason
 use Rattle.kc_text.specs.Numbers.{number_of}
 use Rattle.kc_text.specs.Words.{words, words_from}
 use Rattle.kc_text.specs.Printing.{is_word, lines_of_words}
@@ -52,20 +51,11 @@ pairs_are_words mark (r ∷ rs) h s = and_from (is_word (pair_word mark r)) (lis
 
 refused_says : (t n : ℕ) (r : Reason) → IsSmall t → IsSmall n → IsRefusedReason r → Says (codes "batch" ∷ decimal t ∷ codes "refused" ∷ codes "line" ∷ decimal n ∷ reason_word r ∷ []) (Rattle.kc_audit.specs.Kinds.Refused t)
 unfolding kind_of_words first_number has_fields is_refusal words_from
-refused_says t n reason.Header x y h = absurd h
-refused_says t n reason.LineLong x y h = record { words = rw (word t x, word n y) refl; kept = refl; kind = rw (value t x, value n y) refl }
-refused_says t n reason.BadLine x y h = record { words = rw (word t x, word n y) refl; kept = refl; kind = rw (value t x, value n y) refl }
-refused_says t n reason.BadVertex x y h = record { words = rw (word t x, word n y) refl; kept = refl; kind = rw (value t x, value n y) refl }
-refused_says t n reason.TooMany x y h = record { words = rw (word t x, word n y) refl; kept = refl; kind = rw (value t x, value n y) refl }
-refused_says t n reason.Truncated x y h = record { words = rw (word t x, word n y) refl; kept = refl; kind = rw (value t x, value n y) refl }
-refused_says t n reason.InputLimit x y h = record { words = rw (word t x, word n y) refl; kept = refl; kind = rw (value t x, value n y) refl }
-refused_says t n reason.EdgeLimit x y h = record { words = rw (word t x, word n y) refl; kept = refl; kind = rw (value t x, value n y) refl }
-refused_says t n reason.PhaseLimit x y h = record { words = rw (word t x, word n y) refl; kept = refl; kind = rw (value t x, value n y) refl }
+refused_says t n r x y h = grind (arith, nat_tests, word, value)
 
 phase_says : (p e : ℕ) (add : Bool) → IsSmall p → IsSmall e → Says (codes "phase" ∷ decimal p ∷ direction_word add ∷ codes "quiet" ∷ decimal e ∷ []) (Rattle.kc_audit.specs.Kinds.Phase p add)
 unfolding kind_of_words first_number has_fields direction_kind words_from
-phase_says p e true x y = record { words = rw (word p x, word e y) refl; kept = refl; kind = rw (value p x, value e y) refl }
-phase_says p e false x y = record { words = rw (word p x, word e y) refl; kept = refl; kind = rw (value p x, value e y) refl }
+phase_says p e add x y = grind (arith, nat_tests, word, value)
 
 pub lines_say_kinds : LinesSayKinds
 unfolding kind_of_words first_number has_fields is_version words_from

@@ -81,8 +81,7 @@ are_small n (r ∷ rs) most below levels =
 
 -- the label of a group is one of its vertices
 label_below : (n label : ℕ) (ms : List Reply) → is_group label ms ≡ true → are_below n ms ≡ true → label < n
-label_below n label [] g b = absurd cc
-label_below n label (m ∷ ms) g b = grind (arith, nat_tests, eqb-true, and_parts, ltb-true)
+label_below n label ms g b = grind (arith, nat_tests, eqb-true, and_parts, ltb-true)
 
 -- the words of a group line
 abbrev pub group_words : GroupLine → List (List ℕ)

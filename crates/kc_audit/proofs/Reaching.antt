@@ -95,10 +95,7 @@ goes_on n history rs j k p h inside on =
 -- a reader that is stuck at a point comes to the next
 pub passes : (n : ℕ) (history : List Entry) (rs : List Reply) (k p : ℕ) → IsStuck n history rs k p → IsAt n history rs k (p + 1)
 passes n history rs k p h = elim (cases_lt k (length rs)) [
-  | inl lt ↦ record {
-    within = h.at.within;
-    reached = rw (drop_more rs k no_reply lt) (reached_pass n history (take k rs) (drop (k + 1) rs) (reply_at rs k) p (rw (drop_more rs k no_reply lt) at h.at.reached) (h.unfit lt));
-  }
+  | inl lt ↦ grind (arith, nat_tests, drop_more, reached_pass, h.at.within, h.at.reached, h.unfit, lt)
   | inr ge ↦
       let none : drop k rs ≡ [] = Rattle.std.proofs.lemmas.List.drop_all k rs ge in
       record { within = h.at.within; reached = rw none (reached_done n history (take k rs) p (rw none at h.at.reached)) }

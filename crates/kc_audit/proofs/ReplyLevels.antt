@@ -3,6 +3,7 @@ use Rattle.std.proofs.Common.{ℕ, zero, suc, ◌≤◌, ◌≡◌, true, List, 
 use Rattle.std.specs.Prelude.{nat_le, All}
 use Rattle.std.proofs.lemmas.Bool.{and_from, and_parts, le-leb, leb-true}
 use Rattle.std.proofs.lemmas.List.Elements.{All-nil, All-cons, All-append, All-head, All-tail}
+use Rattle.std.proofs.lemmas.Bool.Decides.{nat_tests}
 use Rattle.kc_history.specs.declared.replies.Reply.{Reply}
 use Rattle.kc_history.specs.Points.{with_moves, levels_after}
 use Rattle.kc_history.specs.Replies.{AreExplained}
@@ -41,9 +42,7 @@ zeros_low (suc n) = λ v. elim v as (λ u. get_or (0 ∷ replicate n 0) u 0 ≤ 
 
 pub reply_levels : (n : ℕ) (gs : List GroupLine) (from : ℕ) (rs : List Reply) → All HaveLevels gs → AreExplained n (history_of gs) from rs → have_levels rs ≡ true
 reply_levels n gs from [] h e = refl
-reply_levels n gs from (r ∷ rs) h e =
-    let there = after_low gs e.0 (replicate n 0) (zeros_low n) h r.vertex in
-    and_from (nat_le r.level 65535) (have_levels rs) (le-leb r.level 65535 (omega (arith, there, e.1.1.0.level))) (reply_levels n gs e.0 rs h e.1.1.1)
+reply_levels n gs from (r ∷ rs) h e = grind (arith, nat_tests, reply_levels n gs e.0 rs h e.1.1.1, after_low, zeros_low, and_from, le-leb, e.0, e.1.1.0.level, e.1.1.1)
 
 -- the levels of the members of a run that fits have 16 bits
 groups_low : (n p low : ℕ) (gs : List GroupLine) → GroupsFit n p low gs → All HaveLevels gs

@@ -37,9 +37,7 @@ kinds ls = map (λ (l : Line). kind_of l.body) ls
 by_step : (s : Step) (number : ℕ) (rest : List Line) (r : RunText) → ((run : RunText) (stage : Stage) → run_from run stage (kinds rest) ≡ Some r → read_from run stage rest ≡ document.Accepted r)
     → on_kind s (λ more next. run_from more next (kinds rest)) ≡ Some r → act number s (λ more next. read_from more next rest) ≡ document.Accepted r
 unfolding on_kind
-by_step (Goes run stage) number rest r h e = h run stage e
-by_step (Ends run) number rest r h e = ap document.Accepted (same_Some _ _ e)
-by_step (Stops reason) number rest r h e = absurd cc
+by_step s number rest r h e = grind (arith, nat_tests, same_Some)
 
 by_kinds : (ls : List Line) (r : RunText) (run : RunText) (stage : Stage) → run_from run stage (kinds ls) ≡ Some r → read_from run stage ls ≡ document.Accepted r
 unfolding run_from read_from kinds
@@ -55,9 +53,7 @@ with_groups run gs = record { vertices = run.vertices; groups = run.groups ++ gs
 
 group_goes : (run : RunText) (place : Place) (low : ℕ) (g : GroupLine) → run.vertices ≤ 2 ^ 32 → GroupFits run.vertices place.phase low g
     → step_of run (Groups place low) (Group g.phase g.label (pair_words 58 g.members)) ≡ Goes (with_groups run (g ∷ [])) (Groups place (suc g.label))
-group_goes run place low g small fits =
-    let phase : (g.phase == place.phase) ≡ true = rw fits.phase (itself place.phase) in
-    rw (phase, le-leb low g.label fits.label, pairs_back 58 run.vertices g.members (omega arith) small fits.below fits.levels, fits.rises, fits.below, sym fits.phase) refl
+group_goes run place low g small fits = grind (arith, nat_tests, itself, le-leb, pairs_back, fits.phase, fits.label, fits.below, fits.levels, fits.rises)
 
 none : (run : RunText) → with_groups run [] ≡ run
 none run = ap (λ (gs : List GroupLine). record { vertices = run.vertices; groups = gs; readers = run.readers }) (append-nil run.groups)
@@ -92,11 +88,7 @@ read_groups : (gs : List GroupLine) (run : RunText) (place : Place) (low : ℕ) 
     → LeadsTo (run_from run (Groups place low) (group_kinds gs rest)) (with_groups run gs) place rest
 unfolding run_from on_kind
 read_groups [] run place low rest small fits = record { stage = Groups place low; opens = open_groups place low; same = ap (λ (x : RunText). run_from x (Groups place low) rest) (sym (none run)) }
-read_groups (g ∷ gs) run place low rest small fits =
-    led _ _ _ _ place rest
-    (ap (λ s. on_kind s (λ more next. run_from more next (group_kinds gs rest))) (group_goes run place low g small fits.0))
-    (join run (g ∷ []) gs)
-    (read_groups gs (with_groups run (g ∷ [])) place (suc g.label) rest small fits.1)
+read_groups (g ∷ gs) run place low rest small fits = grind (arith, nat_tests, read_groups gs (with_groups run (g ∷ [])) place (suc g.label) rest small fits.1, led, group_goes, join, fits.0, fits.1)
 
 abbrev place_at : ℕ → ℕ → PhasesLeft → Place
 place_at t p left = record { batch = t; phase = p; left = left }
@@ -106,9 +98,7 @@ read_phase : (run : RunText) (stage : Stage) (t p : ℕ) (left after : PhasesLef
     → run.vertices ≤ 2 ^ 32 → GroupsFit run.vertices (suc p) 0 x.groups
     → LeadsTo (run_from run stage (Phase (suc p) x.add ∷ group_kinds x.groups rest)) (with_groups run x.groups) (place_at t (suc p) after) rest
 unfolding run_from on_kind
-read_phase run stage t p left after x rest op turn small fits =
-    let h = read_groups x.groups run (place_at t (suc p) after) 0 rest small fits in
-    record { stage = h.stage; opens = h.opens; same = rw (op.phase run (suc p) x.add, itself (suc p), turn) h.same }
+read_phase run stage t p left after x rest op turn small fits = grind (arith, nat_tests, read_groups, itself, op.phase)
 
 first_after : Bool → PhasesLeft
 first_after true = NoPhase
@@ -116,8 +106,7 @@ first_after false = Insertion
 
 first_turn : (add : Bool) → left_after AnyPhase add ≡ Some (first_after add)
 unfolding first_after
-first_turn true = refl
-first_turn false = refl
+first_turn add = grind (arith, nat_tests)
 
 takes : (run : RunText) (stage : Stage) (t p : ℕ) (left : PhasesLeft) (ks : List Kind) → IsOpen stage (place_at t p left)
     → run_from run stage (Accepted (suc t) ∷ ks) ≡ run_from run (Batches (place_at (suc t) p AnyPhase)) ks
@@ -141,8 +130,7 @@ one_phase : (run : RunText) (xs more : List GroupLine) → with_groups (with_gro
 one_phase run xs more = join run xs more ∙ ap (λ (ls : List GroupLine). with_groups run (ls ++ more)) (sym (append-nil xs))
 
 two_phases : (run : RunText) (xs ys more : List GroupLine) → with_groups (with_groups (with_groups run xs) ys) more ≡ with_groups run ((xs ++ (ys ++ [])) ++ more)
-two_phases run xs ys more =
-    ap (λ (r : RunText). with_groups r more) (join run xs ys) ∙ (join run (xs ++ ys) more ∙ ap (λ (ls : List GroupLine). with_groups run ((xs ++ ls) ++ more)) (sym (append-nil ys)))
+two_phases run xs ys more = grind (arith, nat_tests, join, append-nil)
 
 read_batches : (bs : List BatchText) (run : RunText) (stage : Stage) (t p : ℕ) (left : PhasesLeft) (rest : List Kind) → IsOpen stage (place_at t p left) → run.vertices ≤ 2 ^ 32 → BatchesFit run.vertices p bs
     → LeadsOn (run_from run stage (batch_kinds t p bs rest)) (with_groups run (batch_groups bs)) rest
@@ -174,9 +162,7 @@ the_end = Close ∷ InputEnd ∷ []
 
 read_vertices : (more : ℕ) (run : RunText) (v : ℕ) → v + more ≡ run.vertices → run_from run (VertexLines v) (vertex_kinds v more the_end) ≡ Some run
 unfolding run_from on_kind
-read_vertices zero run v e =
-    let done : (v == run.vertices) ≡ true = let s : v ≡ run.vertices = omega (arith, e) in rw s (itself run.vertices) in
-    rw done refl
+read_vertices zero run v e = grind (arith, nat_tests, itself)
 read_vertices (suc more) run v e = rw (vertex_goes run v (omega (arith, e))) (read_vertices more run (suc v) (omega (arith, e)))
 
 -- a stage at which readers and the first vertex line may come
@@ -186,8 +172,7 @@ record IsTail (stage : Stage) : Type 0 where
 
 first_vertex : (n : ℕ) (run : RunText) (stage : Stage) → n ≡ run.vertices → IsTail stage → 1 ≤ n → run_from run stage (vertex_kinds 0 n the_end) ≡ Some run
 unfolding run_from on_kind
-first_vertex zero run stage e h some = absurd (omega (arith, some))
-first_vertex (suc n) run stage e h some = rw (h.vertex run 0, vertex_goes run 0 (omega (arith, e))) (read_vertices n run 1 (omega (arith, e)))
+first_vertex n run stage e h some = grind (arith, nat_tests, vertex_goes, read_vertices)
 
 abbrev with_readers : RunText → List (List Reply) → RunText
 with_readers run rs = record { vertices = run.vertices; groups = run.groups; readers = run.readers ++ rs }
@@ -196,9 +181,7 @@ no_readers : (run : RunText) → with_readers run [] ≡ run
 no_readers run = ap (λ (rs : List (List Reply)). record { vertices = run.vertices; groups = run.groups; readers = rs }) (append-nil run.readers)
 
 reader_goes : (run : RunText) (r : ℕ) (x : List Reply) → r ≡ length run.readers → r < 64 → run.vertices ≤ 2 ^ 32 → ReaderFits run.vertices x → reader_step run r (pair_words 61 x) ≡ Goes (with_readers run (x ∷ [])) Readers
-reader_goes run r x e few small fits =
-    let a : (r == length run.readers) ≡ true = rw e (itself (length run.readers)) in
-    rw (a, lt-ltb r 64 few, pairs_back 61 run.vertices x (omega arith) small fits.below fits.levels, lt-ltb 0 (length x) fits.some, fits.below) refl
+reader_goes run r x e few small fits = grind (arith, nat_tests, itself, lt-ltb, pairs_back, fits.below, fits.levels, fits.some)
 
 read_readers : (rs : List (List Reply)) (n : ℕ) (run : RunText) (stage : Stage) (r : ℕ) → n ≡ run.vertices → IsTail stage → 1 ≤ n → run.vertices ≤ 2 ^ 32 → r ≡ length run.readers → r + length rs ≤ 64 → ReadersFit run.vertices rs
     → run_from run stage (reader_kinds r rs (vertex_kinds 0 n the_end)) ≡ Some (with_readers run rs)

@@ -1,5 +1,5 @@
 -- Each run has a verdict.
-use Rattle.std.proofs.Common.{ℕ, zero, suc, ◌-◌, ◌≤◌, ◌<◌, ◌≡◌, ◌⊎◌, inl, inr, List, [], ◌∷◌, take, length, subst, arith}
+use Rattle.std.proofs.Common.{ℕ, zero, suc, ◌-◌, ◌≤◌, ◌<◌, ◌≡◌, ◌⊎◌, inl, inr, List, [], ◌∷◌, take, length, arith}
 use Rattle.std.proofs.lemmas.Bool.Decides.{nat_tests}
 use Rattle.std.proofs.Math.Seq.{take-length}
 use Rattle.kc_history.specs.declared.entries.Entry.{Entry}
@@ -7,7 +7,7 @@ use Rattle.kc_history.specs.declared.replies.Reply.{Reply}
 use Rattle.kc_history.specs.Replies.{IsLevelAt, AreExplained}
 use Rattle.kc_audit.specs.declared.run_text.RunText.{RunText}
 use Rattle.kc_audit.specs.declared.verdict.AuditVerdict.{AuditVerdict}
-use Rattle.kc_audit.specs.declared.verdict.AuditVerdict.TheVariants.{Explained, Unexplained}
+use Rattle.kc_audit.specs.declared.verdict.AuditVerdict.TheVariants.{Unexplained}
 use Rattle.kc_audit.specs.Runs.{history_of}
 use Rattle.kc_audit.specs.Verdicts.{replies_of, IsExplained, IsFirstUnexplained, IsVerdict}
 use Rattle.kc_audit.specs.Laws.{HasVerdict}
@@ -24,10 +24,7 @@ below : (P : ℕ → Type 0) → ((i : ℕ) → P i ⊎ ¬ (P i)) → (k : ℕ) 
 below P test zero = inr (λ i lt. absurd (omega (arith, lt)))
 below P test (suc k) = elim (below P test k) [
   | inl found ↦ inl (found.0, (omega (arith, found.1.0), found.1.1))
-  | inr none ↦ elim (test k) [
-    | inl here ↦ inl (k, (omega arith, here))
-    | inr not_here ↦ inr (one_more (λ i. ¬ (P i)) k none not_here)
-  ]
+  | inr none ↦ grind (arith, nat_tests, below P test k, test k, one_more)
 ]
 
 level_or_not : (n : ℕ) (history : List Entry) (p : ℕ) (r : Reply) → IsLevelAt n history p r ⊎ ¬ (IsLevelAt n history p r)
@@ -43,10 +40,7 @@ goes_or_not n history from r rs rest p = grind (arith, nat_tests, level_or_not)
 
 explained_or_not : (n : ℕ) (history : List Entry) (rs : List Reply) (from : ℕ) → AreExplained n history from rs ⊎ ¬ (AreExplained n history from rs)
 explained_or_not n history [] from = inl tt
-explained_or_not n history (r ∷ rs) from = elim (below (Goes n history from r rs) (goes_or_not n history from r rs (explained_or_not n history rs)) (suc (length history))) [
-  | inl found ↦ inl (found.0, found.1.1)
-  | inr none ↦ inr (λ e. none e.0 (omega (arith, e.1.1.0.inside)) e.1)
-]
+explained_or_not n history (r ∷ rs) from = grind (arith, nat_tests, below (Goes n history from r rs) (goes_or_not n history from r rs (explained_or_not n history rs)) (suc (length history)), below, goes_or_not)
 
 -- of the first k replies each part is explained, or one reply is the first up to which they aren't
 first_unexplained : (run : RunText) (rs : List Reply) (k : ℕ) → k ≤ length rs → IsExplained run (take k rs) ⊎ ((ask : ℕ) × IsFirstUnexplained run rs ask)
@@ -63,10 +57,7 @@ first_unexplained run rs (suc k) within = elim (first_unexplained run rs k (omeg
 
 -- the replies of a reader are explained, or one is the first up to which they aren't
 reader_or_not : (run : RunText) (rs : List Reply) → IsExplained run rs ⊎ ((ask : ℕ) × IsFirstUnexplained run rs ask)
-reader_or_not run rs = elim (first_unexplained run rs (length rs) (omega arith)) [
-  | inr found ↦ inr found
-  | inl all ↦ inl (subst (λ (xs : List Reply). IsExplained run xs) (take-length rs) all)
-]
+reader_or_not run rs = grind (arith, nat_tests, first_unexplained run rs (length rs) (omega arith), first_unexplained, take-length)
 
 -- the readers below k are explained, or there is a verdict
 readers_or_not : (run : RunText) (k : ℕ) → k ≤ length run.readers → ((r : ℕ) → r < k → IsExplained run (replies_of run r)) ⊎ ((verdict : AuditVerdict) × IsVerdict run verdict)
@@ -80,7 +71,4 @@ readers_or_not run (suc k) within = elim (readers_or_not run k (omega (arith, wi
 ]
 
 pub has_verdict : HasVerdict
-has_verdict run = elim (readers_or_not run (length run.readers) (omega arith)) [
-  | inl all ↦ (Explained, all)
-  | inr found ↦ found
-]
+has_verdict run = grind (arith, nat_tests, readers_or_not run (length run.readers) (omega arith), readers_or_not, run.readers)

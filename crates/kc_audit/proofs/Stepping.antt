@@ -1,11 +1,11 @@
 -- One line, and what a document says of the lines after it.
-use Rattle.std.proofs.Common.{ℕ, ◌≡◌, ◌<◌, List, refl, ap}
-use Rattle.std.specs.Prelude.{Option, Some, None, Result, Ok, Err}
+use Rattle.std.proofs.Common.{ℕ, ◌≡◌, ◌<◌, List, refl, arith}
+use Rattle.std.specs.Prelude.{Option, Result, Ok, Err}
 use Rattle.std.specs.Option.{option_map}
 use Rattle.std.proofs.lemmas.Option.{same_Some}
+use Rattle.std.proofs.lemmas.Bool.Decides.{nat_tests}
 use Rattle.kc_text.specs.declared.line.Line.{Line}
 use Rattle.kc_text.specs.declared.line.Body.{Body}
-use Rattle.kc_text.specs.declared.line.Body.TheVariants.{Text, TooLong, Limit, End}
 use Rattle.kc_text.specs.declared.document_fault.DocumentFault.{DocumentFault}
 use Rattle.kc_text.specs.declared.document_fault.DocumentFault.TheVariants as fault
 use Rattle.kc_text.specs.declared.reason.Reason.{Reason}
@@ -13,7 +13,7 @@ use Rattle.kc_text.specs.declared.reason.Reason.TheVariants.{LineLong, InputLimi
 use Rattle.kc_text.specs.Reading.{onto, behind, Takes}
 use Rattle.kc_audit.specs.declared.run_text.RunText.{RunText}
 use Rattle.kc_audit.specs.declared.stage.Stage.{Stage}
-use Rattle.kc_audit.specs.declared.stage.Stage.TheVariants.{Batches, Groups, Readers, VertexLines, Closed}
+use Rattle.kc_audit.specs.declared.stage.Stage.TheVariants.{Batches}
 use Rattle.kc_audit.specs.Kinds.{kind_of}
 use Rattle.kc_audit.specs.Kinds as kind
 use Rattle.kc_audit.specs.Documents.{Document, Accepted, Refused, Goes, Ends, Stops, step_of, read_from, head_of, vertices_of, after_head, document_of, empty_run, first_place}
@@ -25,31 +25,16 @@ pub record IsText (body : Body) : Type 0 where
   pub takes : (old new : ℕ) → Takes body old new → new < old
 
 stops_long : (run : RunText) (stage : Stage) → step_of run stage kind.TooLong ≡ Stops LineLong
-stops_long run (Batches place) = refl
-stops_long run (Groups place low) = refl
-stops_long run Readers = refl
-stops_long run (VertexLines next) = refl
-stops_long run Closed = refl
+stops_long run stage = grind (arith, nat_tests)
 
 stops_limit : (run : RunText) (stage : Stage) → step_of run stage kind.Limit ≡ Stops InputLimit
-stops_limit run (Batches place) = refl
-stops_limit run (Groups place low) = refl
-stops_limit run Readers = refl
-stops_limit run (VertexLines next) = refl
-stops_limit run Closed = refl
+stops_limit run stage = grind (arith, nat_tests)
 
 no_end : (run : RunText) (stage : Stage) (more : RunText) (next : Stage) → step_of run stage kind.InputEnd ≡ Goes more next → ⊥
-no_end run (Batches place) more next e = cc
-no_end run (Groups place low) more next e = cc
-no_end run Readers more next e = cc
-no_end run (VertexLines v) more next e = cc
-no_end run Closed more next e = cc
+no_end run stage more next e = grind (arith, nat_tests)
 
 pub fits_text : (run : RunText) (stage : Stage) (body : Body) (more : RunText) (next : Stage) → step_of run stage (kind_of body) ≡ Goes more next → IsText body
-fits_text run stage (Text text) more next e = record { behind = λ rest. refl; takes = λ old new h. h }
-fits_text run stage TooLong more next e = let s = stops_long run stage in absurd cc
-fits_text run stage Limit more next e = let s = stops_limit run stage in absurd cc
-fits_text run stage End more next e = absurd (no_end run stage more next e)
+fits_text run stage body more next e = grind (arith, nat_tests, stops_long, stops_limit, no_end)
 
 pub goes_on : (run : RunText) (stage : Stage) (line : Line) (more : RunText) (next : Stage) → step_of run stage (kind_of line.body) ≡ Goes more next → (rest : List Line)
     → read_from run stage (onto line rest) ≡ read_from more next rest
@@ -66,37 +51,26 @@ ends run stage line more e rest = rw e refl
 
 -- what a rule F says of lines with one put before them, G says of the lines after it
 pub step_on : (F G : List Line → Document) (line : Line) (old new : Option (List Line)) → old ≡ option_map (onto line) new → ((rest : List Line) → F (onto line rest) ≡ G rest) → option_map F old ≡ option_map G new
-step_on F G line old None e h = rw e refl
-step_on F G line old (Some rest) e h = rw e (ap Some (h rest))
+step_on it k line old new e h = grind (arith, nat_tests)
 
 -- an answer on later lines is one on the lines before
 pub answer_before : (F G : List Line → Document) (old new : Option (List Line)) (result : Result RunText DocumentFault) → option_map F old ≡ option_map G new → Answers G new result → Answers F old result
-answer_before F G None new result e h = tt
-answer_before F G (Some ls) None result e h = absurd cc
-answer_before F G (Some ls) (Some rest) result e h = rw (same_Some _ _ e) h
+answer_before it k old new result e h = grind (arith, nat_tests, same_Some)
 
 -- where the document is decided by one line
 pub refused_here : (F : List Line → Document) (line : Line) (reason : Reason) (old new : Option (List Line)) → option_map F old ≡ option_map (λ rest. Refused line.number reason) new
     → Answers F old (Err (fault.Refused line.number reason))
-refused_here F line reason old None e = answer_before F (λ rest. Refused line.number reason) old None (Err (fault.Refused line.number reason)) e tt
-refused_here F line reason old (Some rest) e = answer_before F (λ rest. Refused line.number reason) old (Some rest) (Err (fault.Refused line.number reason)) e refl
+refused_here it line reason old new e = grind (arith, nat_tests, answer_before)
 
 pub accepted_here : (F : List Line → Document) (run : RunText) (old new : Option (List Line)) → option_map F old ≡ option_map (λ rest. Accepted run) new → Answers F old (Ok run)
-accepted_here F run old None e = answer_before F (λ rest. Accepted run) old None (Ok run) e tt
-accepted_here F run old (Some rest) e = answer_before F (λ rest. Accepted run) old (Some rest) (Ok run) e refl
+accepted_here it run old new e = grind (arith, nat_tests, answer_before)
 
 -- the first two lines are texts where they fit
 ok_text : (body : Body) (n : ℕ) → vertices_of (kind_of body) ≡ Ok n → IsText body
-ok_text (Text text) n e = record { behind = λ rest. refl; takes = λ old new h. h }
-ok_text TooLong n e = absurd cc
-ok_text Limit n e = absurd cc
-ok_text End n e = absurd cc
+ok_text body n e = grind (arith, nat_tests)
 
 head_text : (body : Body) (u : Unit {0}) → head_of (kind_of body) ≡ Ok u → IsText body
-head_text (Text text) u e = record { behind = λ rest. refl; takes = λ old new h. h }
-head_text TooLong u e = absurd cc
-head_text Limit u e = absurd cc
-head_text End u e = absurd cc
+head_text body u e = grind (arith, nat_tests)
 
 pub head_there : (line : Line) (u : Unit {0}) → head_of (kind_of line.body) ≡ Ok u → (rest : List Line) → document_of (onto line rest) ≡ after_head rest
 unfolding document_of

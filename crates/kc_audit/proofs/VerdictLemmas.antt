@@ -1,12 +1,11 @@
 -- Verdicts that exclude each other.
-use Rattle.std.proofs.Common.{ℕ, zero, suc, ◌-◌, ◌≤◌, ◌<◌, ◌≡◌, List, [], ◌∷◌, take, refl, arith}
+use Rattle.std.proofs.Common.{ℕ, zero, suc, ◌-◌, ◌≤◌, ◌<◌, ◌≡◌, List, [], ◌∷◌, take, arith}
 use Rattle.std.proofs.lemmas.Bool.Decides.{nat_tests}
 use Rattle.std.proofs.lemmas.List.{take-take}
 use Rattle.kc_history.specs.declared.entries.Entry.{Entry}
 use Rattle.kc_history.specs.declared.replies.Reply.{Reply}
 use Rattle.kc_history.specs.Replies.{AreExplained}
 use Rattle.kc_audit.specs.declared.run_text.RunText.{RunText}
-use Rattle.kc_audit.specs.declared.verdict.AuditVerdict.TheVariants.{Explained, Unexplained}
 use Rattle.kc_audit.specs.Verdicts.{replies_of, IsExplained, IsFirstUnexplained, IsUnexplained}
 use Rattle.kc_audit.specs.Laws.{ExplainedPasses, IsOneVerdict}
 
@@ -23,8 +22,7 @@ explained_here : (run : RunText) (rs : List Reply) (ask : ℕ) → IsExplained r
 explained_here run rs ask e f = f.unfit (fewer run.vertices _ 0 ask rs e)
 
 pub explained_passes : ExplainedPasses
-explained_passes run Explained all v = refl
-explained_passes run (Unexplained reader ask) all v = absurd (explained_here run (replies_of run reader) ask (all reader v.within) v.here)
+explained_passes run it all v = grind (arith, nat_tests, explained_here)
 
 no_less : (run : RunText) (r a s b : ℕ) → IsUnexplained run r a → IsUnexplained run s b → r < s → ⊥
 no_less run r a s b u w h = explained_here run (replies_of run r) a (w.before r h) u.here
@@ -36,7 +34,4 @@ same_number : (a b : ℕ) → (a < b → ⊥) → (b < a → ⊥) → a ≡ b
 same_number a b p q = grind (arith, nat_tests)
 
 pub one_verdict : IsOneVerdict
-one_verdict run Explained Explained v w = refl
-one_verdict run Explained (Unexplained s b) v w = absurd (explained_here run (replies_of run s) b (v s w.within) w.here)
-one_verdict run (Unexplained r a) Explained v w = absurd (explained_here run (replies_of run r) a (w r v.within) v.here)
-one_verdict run (Unexplained r a) (Unexplained s b) v w = grind (arith, nat_tests, same_number, no_less, no_less_ask)
+one_verdict run it h v w = grind (arith, nat_tests, explained_here, same_number, no_less, no_less_ask)

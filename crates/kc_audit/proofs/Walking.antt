@@ -1,5 +1,5 @@
 -- All readers of a run at one point of its history.
-use Rattle.std.proofs.Common.{ℕ, ◌+◌, ◌-◌, ◌≤◌, ◌<◌, ◌≡◌, ◌≢◌, Bool, true, false, List, [], length, replicate, get_or, ap, sym, ◌∙◌, subst, arith}
+use Rattle.std.proofs.Common.{ℕ, ◌+◌, ◌≤◌, ◌<◌, ◌≡◌, ◌≢◌, Bool, true, false, List, [], length, replicate, get_or, ap, sym, ◌∙◌, arith}
 use Rattle.std.specs.Prelude.{All}
 use Rattle.std.proofs.lemmas.List.{get_or-replicate}
 use Rattle.std.proofs.lemmas.List.Elements.{All-weaker}
@@ -10,9 +10,8 @@ use Rattle.kc_history.specs.Points.{levels_at}
 use Rattle.kc_audit.specs.declared.groups.GroupLine.{GroupLine}
 use Rattle.kc_audit.specs.declared.run_text.RunText.{RunText}
 use Rattle.kc_audit.specs.declared.verdict.AuditVerdict.{AuditVerdict}
-use Rattle.kc_audit.specs.declared.verdict.AuditVerdict.TheVariants.{Explained, Unexplained}
 use Rattle.kc_audit.specs.Runs.{history_of}
-use Rattle.kc_audit.specs.private.Walks.{GoesOn, EachGoesOn, AreWithin, IsAwaited, Tells, reply_at}
+use Rattle.kc_audit.specs.private.Walks.{EachGoesOn, AreWithin, IsAwaited, Tells, reply_at}
 use Rattle.kc_audit.specs.Verdicts.{IsVerdict}
 use Rattle.kc_audit.proofs.MoveLemmas.{moves_other, levels_next, length-history}
 use Rattle.kc_audit.proofs.Reaching.{IsAt, IsStuck, at_start, goes_on, passes, explained_so_far, explained_all, unexplained_next}
@@ -32,8 +31,7 @@ all_at_start n history readers r h = rw (get_or-replicate {A = ℕ} (length read
 pub all_go_on : (n : ℕ) (history : List Entry) (readers : List (List Reply)) (levels before now : List ℕ) (p : ℕ) → AreAt n history readers before p → p ≤ length history
     → levels ≡ levels_at n history p → EachGoesOn levels readers before now → AreStuck n history readers now p
 unfolding AreAt AreStuck
-all_go_on n history readers levels before now p at inside e on r h =
-    goes_on n history (get_or readers r []) (get_or before r 0) (get_or now r 0) p (at r h) inside (subst (λ (x : List ℕ). GoesOn x (get_or readers r []) (get_or before r 0) (get_or now r 0)) e (on r h))
+all_go_on n history readers levels before now p at inside e on r h = grind (arith, nat_tests, goes_on)
 
 pub all_within : (readers : List (List Reply)) (levels before now : List ℕ) → length now ≡ length readers → EachGoesOn levels readers before now → AreWithin readers now
 all_within readers levels before now sized on = record { sized = sized; each = λ r h. (on r h).within }
@@ -67,5 +65,4 @@ all_stay n groups readers told awaited g p h waits lt unmet r inside =
 pub told_verdict : (run : RunText) (told : List ℕ) (p : ℕ) (verdict : AuditVerdict) → AreStuck run.vertices (history_of run.groups) run.readers told p
     → ((r : ℕ) → r < length run.readers → get_or told r 0 < length (get_or run.readers r []) → length run.groups ≤ p) → Tells run.readers told verdict → IsVerdict run verdict
 unfolding AreStuck
-told_verdict run told p Explained h last t = λ r lt. explained_all run.vertices (history_of run.groups) (get_or run.readers r []) (get_or told r 0) p (h r lt).at (t r lt)
-told_verdict run told p (Unexplained reader ask) h last t = grind (arith, nat_tests, explained_all, explained_so_far, unexplained_next, length-history, t.within, t.before, t.ask_is, t.here)
+told_verdict run told p verdict h last t = grind (arith, nat_tests, explained_all, explained_so_far, unexplained_next, length-history)

@@ -1,5 +1,5 @@
 -- Words, and what is said by those after them.
-use Rattle.std.proofs.Common.{ℕ, ◌≡◌, ◌<◌, ◌+◌, ◌-◌, Bool, true, false, ◌&&◌, cond, arith, length, take, List, [], ◌∷◌, ◌++◌, drop, refl, ap, sym, append_assoc}
+use Rattle.std.proofs.Common.{ℕ, ◌≡◌, ◌<◌, ◌+◌, Bool, true, false, ◌&&◌, cond, arith, length, take, List, [], ◌∷◌, ◌++◌, drop, refl, sym, append_assoc}
 use Rattle.std.specs.Prelude.{Option, Some, None, ◌==◌}
 use Rattle.std.specs.List.{position, position_or_len}
 use Rattle.std.proofs.lemmas.List.{append-nil, drop_all}
@@ -17,8 +17,7 @@ number_there text from value end n = rw (n.words_are, n.number) refl
 
 pub number_missing : (ws : List (List ℕ)) → IsNoNumber ws → first_number ws ≡ None
 unfolding first_number
-number_missing [] h = refl
-number_missing (w ∷ ws) h = rw h refl
+number_missing ws h = grind (arith, nat_tests)
 
 pub ruleset number_steps = (number_there, number_missing)
 
@@ -28,8 +27,7 @@ pairs_behind front (Some rs) = Some (front ++ rs)
 pairs_behind front None = None
 
 pub pair_next : (front : List Reply) (r : Reply) (rest : Option (List Reply)) → pairs_behind front (pair_before (Some r) rest) ≡ pairs_behind (front ++ r ∷ []) rest
-pair_next front r (Some rs) = ap Some (sym (append_assoc front (r ∷ []) rs))
-pair_next front r None = refl
+pair_next front r rest = grind (arith, nat_tests, append_assoc)
 
 pub field_missing : (names : List (List ℕ)) (name : List ℕ) (rest ws : List (List ℕ)) → names ≡ name ∷ rest → ws ≡ [] → has_fields names ws ≡ false
 unfolding has_fields
@@ -37,34 +35,26 @@ field_missing names name rest ws e f = rw (e, f) refl
 
 pub field_other : (names : List (List ℕ)) (name : List ℕ) (rest ws : List (List ℕ)) (w : List ℕ) (more : List (List ℕ)) → names ≡ name ∷ rest → ws ≡ w ∷ more → bytes_eq w name ≡ false → has_fields names ws ≡ false
 unfolding has_fields
-field_other names name rest ws w [] e f h = rw (e, f) refl
-field_other names name rest ws w (number ∷ more) e f h = rw (e, f, h) refl
+field_other names name rest ws w more e f h = grind (arith, nat_tests)
 
 no_fields : (b : Bool) (names ws : List (List ℕ)) → (b && (false && has_fields names ws)) ≡ false
-no_fields true names ws = refl
-no_fields false names ws = refl
+no_fields b names ws = grind (arith, nat_tests)
 
 -- a word that says no number, before others
 no_number : (o : Option ℕ) (ws : List (List ℕ)) → before_words o ws ≡ None → o ≡ None
-no_number None ws e = refl
-no_number (Some n) ws e = absurd cc
+no_number o ws e = grind (arith, nat_tests)
 
 pub field_no_number : (names : List (List ℕ)) (name : List ℕ) (rest ws : List (List ℕ)) (w : List ℕ) (more : List (List ℕ)) → names ≡ name ∷ rest → ws ≡ w ∷ more → first_number more ≡ None → has_fields names ws ≡ false
 unfolding has_fields first_number
-field_no_number names name rest ws w [] e f h = rw (e, f) refl
-field_no_number names name rest ws w (number ∷ more) e f h = rw (e, f, no_number (number_of number) more h) (no_fields (bytes_eq w name) rest more)
+field_no_number names name rest ws w more e f h = grind (arith, nat_tests, no_number, no_fields)
 
 found_number : (o : Option ℕ) (ws : List (List ℕ)) (n : ℕ) (after : List (List ℕ)) → before_words o ws ≡ Some (n, after) → (o ≡ Some n) × (ws ≡ after)
-found_number None ws n after e = absurd cc
-found_number (Some m) ws n after e = let same : (m, ws) ≡ (n, after) = same_Some _ _ e in (ap (λ (p : ℕ × List (List ℕ)). Some p.0) same, ap (λ (p : ℕ × List (List ℕ)). p.1) same)
+found_number o ws n after e = grind (arith, nat_tests, same_Some)
 
 pub field_there : (names : List (List ℕ)) (name : List ℕ) (rest ws : List (List ℕ)) (w : List ℕ) (more : List (List ℕ)) (n : ℕ) (after : List (List ℕ)) → names ≡ name ∷ rest → ws ≡ w ∷ more
     → bytes_eq w name ≡ true → first_number more ≡ Some (n, after) → has_fields names ws ≡ has_fields rest after
 unfolding has_fields first_number
-field_there names name rest ws w [] n after e f h g = absurd cc
-field_there names name rest ws w (number ∷ more) n after e f h g =
-    let found = found_number (number_of number) more n after g in
-    rw (e, f, h, found.0, found.1) refl
+field_there names name rest ws w more n after e f h g = grind (arith, nat_tests, found_number)
 
 pub fields_end : (names ws : List (List ℕ)) → names ≡ [] → has_fields names ws ≡ is_nothing ws
 unfolding has_fields
@@ -79,12 +69,10 @@ pub place_found : (p : ℕ → Bool) (xs : List ℕ) (i : ℕ) → Some i ≡ po
 place_found p xs i e = grind (arith, nat_tests, cond_some)
 
 not_chosen : (b : Bool) (i : ℕ) → cond b (Some i) None ≡ None → b ≡ false
-not_chosen true i e = absurd cc
-not_chosen false i e = refl
+not_chosen b i e = grind (arith, nat_tests)
 
 no_level : (o : Option ℕ) → reply_with o None ≡ None
-no_level None = refl
-no_level (Some v) = refl
+no_level o = grind (arith, nat_tests)
 
 -- a word without the mark says no pair
 pub pair_missing : (mark : ℕ) (w : List ℕ) → None ≡ position (λ b. b == mark) w → pair_of mark w ≡ None

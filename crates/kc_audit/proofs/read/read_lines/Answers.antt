@@ -34,6 +34,5 @@ loop-draft-preserved g c =
 
 pub loop-draft-smaller : goal.loop-draft-smaller
 loop-draft-smaller g c =
-    let line = c.in_ok-line.line in
     let step = rw (c.text_of-text.ensures, c.form_of-form.ensures.kind, c.in-Go.is) at c.in_ok-next.ensures.step in
-    rw c.give_back.ensures ((fits_text c.loop-draft.draft.run c.loop-draft.stage line.body c.turn_at.new.draft.run c.in-Go.next step).takes _ _ c.in_ok-line.ensures.takes)
+    rw c.give_back.ensures ((fits_text c.loop-draft.draft.run c.loop-draft.stage c.in_ok-line.line.body c.turn_at.new.draft.run c.in-Go.next step).takes _ _ c.in_ok-line.ensures.takes)
