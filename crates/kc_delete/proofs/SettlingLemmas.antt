@@ -30,8 +30,7 @@ within_after th a es within = record {
 
 -- where the count from the level below on is the same, v is held as before
 held_same : (p : Profile) (g : GraphShape) (y z : List ℕ) (v k : ℕ) → ((l : ℕ) → k ≡ suc l → at_least g z v l ≡ at_least g y v l) → IsHeld p g y v k → IsHeld p g z v k
-held_same p g y z v zero same held = tt
-held_same p g y z v (suc l) same held = omega (arith, held, same l refl)
+held_same p g y z v k same held = grind (arith, nat_tests)
 
 -- the marks after v was taken
 other_mark : (waits : List Bool) (u v : ℕ) → u ≢ v → get_or waits u false ≡ true → get_or (set waits v false) u false ≡ true
@@ -51,40 +50,23 @@ settling_fall p g x y waits after v to graph s vertex d sized still looked = rec
     inside = omega (arith, vertex, s.lowering.sized)
 
     as_before : (u : ℕ) → u < g.vertices → u ≢ v → ((l : ℕ) → get_or y u 0 ≡ suc l → at_least g (set y v to) u l ≡ at_least g y u l) → (get_or after u false ≡ true) ⊎ IsHeld p g (set y v to) u (get_or y u 0)
-    as_before u h ne same = elim (s.meets u h) [
-      | inl marked ↦ inl (still u (other_mark waits u v ne marked))
-      | inr held ↦ inr (held_same p g y (set y v to) u (get_or y u 0) same held)
-    ]
+    as_before u h ne same = grind (arith, nat_tests, other_mark, held_same, s.meets)
 
     near_kept : (u : ℕ) → u ≢ v → has_number u (neighbours_of v g.edges) ≡ true → KeepsCount (get_or y v 0) to (get_or (set y v to) u 0) → (l : ℕ) → get_or y u 0 ≡ suc l → at_least g (set y v to) u l ≡ at_least g y u l
-    near_kept u ne near keeps l e = at_least-kept g y u v to l graph inside near (side (get_or y v 0) to (get_or (set y v to) u 0) l d.under (get_or-set_other y v u to 0 ne ∙ e) keeps)
-      where
-        side : (from into level l : ℕ) → into ≤ from → level ≡ suc l → KeepsCount from into level → (l ≤ from) × (l ≤ into) ⊎ (from < l) × (into < l)
-        side from into level l le is (inl low) = inl (omega arith, omega arith)
-        side from into level l le is (inr high) = inr (omega arith, omega arith)
+    near_kept u ne near keeps l e = grind (arith, nat_tests, at_least-kept, inside, get_or-set_other, d.under)
 
     near_looked : (u : ℕ) → u < g.vertices → u ≢ v → has_number u (neighbours_of v g.edges) ≡ true → IsLookedAt p g (get_or y v 0) to (set y v to) after u → (get_or after u false ≡ true) ⊎ IsHeld p g (set y v to) u (get_or y u 0)
-    near_looked u h ne near (inl keeps) = as_before u h ne (near_kept u ne near keeps)
-    near_looked u h ne near (inr (inl marked)) = inl marked
-    near_looked u h ne near (inr (inr held)) = inr (subst (IsHeld p g (set y v to) u) (get_or-set_other y v u to 0 ne) held)
+    near_looked u h ne near it = grind (arith, nat_tests, as_before, near_kept, get_or-set_other)
 
     others : (u : ℕ) → u < g.vertices → u ≢ v → (get_or after u false ≡ true) ⊎ IsHeld p g (set y v to) u (get_or y u 0)
-    others u h ne = elim (cases_Bool (has_number u (neighbours_of v g.edges))) [
-      | inl near ↦
-          let at = has_number_index u (neighbours_of v g.edges) near in
-          near_looked u h ne near (subst (λ w. IsLookedAt p g (get_or y v 0) to (set y v to) after w) at.2 (looked at.0 at.1))
-      | inr far ↦ as_before u h ne (λ l e. at_least-set g y u v to l (neighbours_both u v g.edges ∙ far))
-    ]
+    others u h ne = grind (arith, nat_tests, cases_Bool (has_number u (neighbours_of v g.edges)), has_number_index, near_looked, as_before, at_least-set, neighbours_both)
 
 -- some who waited leave, who have enough neighbours
 pub settling_sifted : (p : Profile) (g h : GraphShape) (x y : List ℕ) (before after : List Bool) → h ≡ g → IsSettling p g x y before → IsSifted p h y before after → IsSettling p g x y after
 settling_sifted p g h x y before after same s r = record {
   lowering = s.lowering;
   sized = r.sized ∙ s.sized;
-  meets = λ v inside. elim (s.meets v inside) [
-    | inl marked ↦ elim (r.meets v marked) [ inl still ↦ inl still | inr meets ↦ inr (subst (λ (k : GraphShape). MeetsLower p k y v) same meets) ]
-    | inr meets ↦ inr meets
-  ];
+  meets = λ v inside. grind (arith, nat_tests, s.meets, r.meets);
 }
 
 -- how much there is still to be done: each level that a vertex falls may let all vertices wait
@@ -92,19 +74,10 @@ abbrev pub work_left : GraphShape → List ℕ → List Bool → ℕ
 work_left g y waits = sum y * (g.vertices + 1) + count_by (λ b. b) waits
 
 pub work_kept : (g : GraphShape) (y : List ℕ) (waits : List Bool) (v : ℕ) → v < length waits → get_or waits v false ≡ true → work_left g y (set waits v false) < work_left g y waits
-work_kept g y waits v inside marked =
-    let total = sum_by-set (λ b. cond b 1 0) waits v false false inside in
-    omega (arith, total, one (get_or waits v false) marked)
-  where
-    one : (b : Bool) → b ≡ true → 1 ≤ cond b 1 0
-    one false h = absurd (true≢false (sym h))
-    one true h = omega arith
+work_kept g y waits v inside marked = grind (arith, nat_tests, sum_by-set, true≢false)
 
 one_less : (a b : Bool) (m n : ℕ) → (a ≡ true → b ≡ true) → m ≤ n → cond a 1 0 + m ≤ cond b 1 0 + n
-one_less false false m n e le = omega (arith, le)
-one_less false true m n e le = omega (arith, le)
-one_less true false m n e le = absurd (true≢false (sym (e refl)))
-one_less true true m n e le = omega (arith, le)
+one_less a b m n e le = grind (arith, nat_tests, true≢false)
 
 fewer_marks : (before after : List Bool) → length after ≡ length before → ((v : ℕ) → get_or after v false ≡ true → get_or before v false ≡ true) → count_by (λ b. b) after ≤ count_by (λ b. b) before
 fewer_marks [] [] same fewer = omega arith
@@ -114,10 +87,7 @@ fewer_marks (a ∷ as_) (b ∷ bs) same fewer =
     rw (count_by-cons (λ c. c) b bs, count_by-cons (λ c. c) a as_) (one_less b a _ _ (fewer zero) (fewer_marks as_ bs (omega (arith, same)) (λ v. fewer (suc v))))
 
 pub work_taken : (p : Profile) (h g : GraphShape) (y : List ℕ) (before after : List Bool) (v : ℕ) → IsTaken p h y before after v → work_left g y after < work_left g y before
-work_taken p h g y before after v t =
-    let less : work_left g y (set t.between v false) < work_left g y t.between = work_kept g y t.between v t.inside t.waited in
-    let fewer : count_by (λ b. b) t.between ≤ count_by (λ b. b) before = fewer_marks before t.between t.sifted.sized t.sifted.fewer in
-    rw t.taken (omega (arith, less, fewer))
+work_taken p h g y before after v t = grind (arith, nat_tests, work_kept, fewer_marks, t.between, t.inside, t.waited, t.sifted.sized, t.sifted.fewer, t.taken)
 
 -- an end of an edge of the list stands in it at some place
 pub end_index : (v : ℕ) (es : List Pair) (d : Pair) → has_number v (ends_of es) ≡ true → (k : ℕ) × (k < length es) × ((v ≡ (get_or es k d).0) ⊎ (v ≡ (get_or es k d).1))
@@ -155,8 +125,7 @@ neighbours_of-without_edges v g (e ∷ es) other =
 
 held_in_both : (p : Profile) (g h : GraphShape) (x : List ℕ) (v k : ℕ) → h.vertices ≡ g.vertices → neighbours_of v h.edges ≡ neighbours_of v g.edges → IsHeld p g x v k → IsHeld p h x v k
 unfolding at_least
-held_in_both p g h x v zero same_n same held = tt
-held_in_both p g h x v (suc l) same_n same held = rw (same, same_n) held
+held_in_both p g h x v k same_n same held = grind (arith, nat_tests)
 
 -- where edges left, only their ends can break anything
 pub settling_first : (p : Profile) (g : GraphShape) (x : List ℕ) (waits : List Bool) (es : List Pair) → length x ≡ g.vertices → length waits ≡ g.vertices → ((v : ℕ) → v < g.vertices → MeetsLower p g x v) → ((v : ℕ) → has_number v (ends_of es) ≡ true → WaitsOrMeets p (without_edges g es) x waits v) → IsSettling p (without_edges g es) x x waits
