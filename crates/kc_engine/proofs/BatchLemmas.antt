@@ -1,6 +1,6 @@
 -- One batch: there is a state after it, there is only one, and it keeps what is true of each state.
-use Rattle.std.proofs.Common.{ℕ, ◌≡◌, ◌≤◌, ◌+◌, ◌-◌, Bool, true, false, List, [], ◌∷◌, nat_lt, length, replicate, refl, sym, ap, ◌∙◌, suc, zero, arith}
-use Rattle.std.specs.Prelude.{Some, None, if◌then◌else◌, ◌&&◌, Result, Ok, Err}
+use Rattle.std.proofs.Common.{ℕ, ◌≡◌, ◌≤◌, ◌+◌, ◌-◌, Bool, false, List, [], ◌∷◌, nat_lt, length, replicate, refl, sym, ap, ◌∙◌, suc, zero, arith}
+use Rattle.std.specs.Prelude.{Some, None, if◌then◌else◌, ◌&&◌, Result, Ok}
 use Rattle.std.specs.Result.{MatchResult, is_ok}
 use Rattle.std.proofs.lemmas.Bool.{false≢true, and_cases}
 use Rattle.std.proofs.lemmas.Bool.Decides.{nat_tests}
@@ -59,9 +59,7 @@ pub record IsAccepted (limit : ℕ) (s : State) (c : Cleaned) : Type 0 where
   pub number : phases_after s c ≤ MAX_PHASE
 
 none_chosen : (a b : Bool) (x y : EngineFault) → (if a then Some x else if b then Some y else None) ≡ None → (a ≡ false) × (b ≡ false)
-none_chosen true b x y e = absurd cc
-none_chosen false true x y e = absurd cc
-none_chosen false false x y e = (refl, refl)
+none_chosen a b x y e = grind (arith, nat_tests)
 
 number_from : (k s most : ℕ) → s ≤ most → (nat_lt 0 k && nat_lt most (s + k)) ≡ false → s + k ≤ most
 number_from k s most few e = grind (arith, nat_tests, and_cases)
@@ -124,8 +122,7 @@ ascend_later g c f = rw (vertices-without_edges g c.removed) f.added_ascend
 
 -- what a batch leaves
 pub at_after : (p : Profile) (g : GraphShape) (c : Cleaned) (x y : List ℕ) → IsAt p g x → FitsGraph g c → AreLevelsAfter p g c x y → IsAt p (graph_after_batch g c) y
-at_after p g c x y k f a =
-    after_raised p (without_edges g c.removed) c.added a.between y (after_lowered p g c.removed x a.between k a.lowered) (ascend_later g c f) a.raised
+at_after p g c x y k f a = grind (arith, nat_tests, after_raised, after_lowered, ascend_later, a.between, a.lowered, a.raised)
 
 -- the one list of levels after a batch
 pub one_after : (p : Profile) (g : GraphShape) (c : Cleaned) (x : List ℕ) → IsAt p g x → FitsGraph g c
@@ -156,9 +153,7 @@ batch_has_one_state limit s c k cleaning =
 
 -- how many edges there are after a batch
 pub edges_behind : (g : GraphShape) (c : Cleaned) (limit : ℕ) → limit ≤ MAX_EDGES → FitsGraph g c → length g.edges - length c.removed + length c.added ≤ limit → length (graph_after_batch g c).edges ≤ limit
-edges_behind g c limit small f room =
-    let longer = length-with_edges (without_edges g c.removed) c.added (f.can_add (omega (arith, small, room))) in
-    omega (arith, longer, f.fewer_later, room)
+edges_behind g c limit small f room = grind (arith, nat_tests, length-with_edges, f.can_add, f.fewer_later)
 
 pub batch_keeps_sound : BatchKeepsSound
 batch_keeps_sound limit s t c small k cleaning none a =
@@ -195,5 +190,4 @@ sound_behind limit s c g y count small k cleaning none graph moved counted =
 
 -- what was answered where a mapped error didn't come
 pub ok_before : {T E D : Type 0} (r : Result T E) (m : Result T D) (x : T) (Q : E → Type 0) → m ≡ Ok x → MatchResult r (λ y. m ≡ Ok y) Q → is_ok m ≡ is_ok r → r ≡ Ok x
-ok_before (Ok y) m x Q was cases same = cc
-ok_before (Err e) m x Q was cases same = absurd (false≢true (sym (ap is_ok (sym was) ∙ same)))
+ok_before r m x it was cases same = grind (arith, nat_tests, false≢true)

@@ -1,5 +1,5 @@
 -- Each phase of a batch leads from the graph and levels before it to those after it.
-use Rattle.std.proofs.Common.{ℕ, ◌≡◌, ◌≢◌, true, false, List, [], ◌∷◌, ◌+◌, refl, sym, subst, arith}
+use Rattle.std.proofs.Common.{ℕ, ◌≡◌, ◌≢◌, true, false, List, [], ◌∷◌, ◌+◌, refl, arith}
 use Rattle.std.proofs.lemmas.Bool.Decides.{nat_tests}
 use Rattle.kc_graph.specs.Shape.{Pair, GraphShape, EdgesFrom, with_edges, without_edges}
 use Rattle.kc_graph.specs.Changes.{AllPresent, AllAbsent}
@@ -20,14 +20,12 @@ alone p g h x y plan plans one a = rw one (h, (y, (a, (refl, refl))))
 -- the phase in which edges leave, if some do
 out : (p : Profile) (phase : ℕ) (es : List Pair) (x y : List ℕ) (g : GraphShape) (plans : List PhasePlan) → EdgesFrom g.vertices 0 0 es → AllPresent g es → AreLoweredIn p g es x y → ArePhaseOf phase false es x y g plans
     → LeadOn p g x plans (without_edges g es) y
-out p phase [] x y g plans up present low a = subst (λ (ps : List PhasePlan). LeadOn p g x ps g y) (sym a) (refl, low)
-out p phase (e ∷ es) x y g plans up present low a = grind (arith, nat_tests, alone, some_edges)
+out p phase es x y g plans up present low a = grind (arith, nat_tests, alone, some_edges)
 
 -- and the one in which they come in
 in_again : (p : Profile) (phase : ℕ) (es : List Pair) (x y : List ℕ) (g : GraphShape) (plans : List PhasePlan) → EdgesFrom g.vertices 0 0 es → AllAbsent g es → AreRaisedIn p g es x y → ArePhaseOf phase true es x y (with_edges g es) plans
     → LeadOn p g x plans (with_edges g es) y
-in_again p phase [] x y g plans up absent high a = subst (λ (ps : List PhasePlan). LeadOn p g x ps g y) (sym a) (refl, high)
-in_again p phase (e ∷ es) x y g plans up absent high a = grind (arith, nat_tests, alone, some_edges)
+in_again p phase es x y g plans up absent high a = grind (arith, nat_tests, alone, some_edges)
 
 pub phases_lead_one_by_one : PhasesLeadOneByOne
 phases_lead_one_by_one limit s t c plans sound cleaning a =

@@ -10,7 +10,6 @@ use Rattle.kc_groups.specs.declared.plans.PhasePlan.{PhasePlan}
 use Rattle.kc_groups.specs.WellFormed.{vertex_at}
 use Rattle.kc_store.specs.declared.roles.Loan.{Loan}
 use Rattle.kc_store.specs.declared.roles.WriterState.{WriterState}
-use Rattle.kc_store.specs.declared.roles.MarkerState.{MarkerState}
 use Rattle.kc_store.specs.Seats.{MarkerShape}
 use Rattle.kc_store.specs.States.{loan_of, with_loan, without_loan, with_returned, marker_for}
 use Rattle.kc_store.proofs.lemmas.Shows.{lent_marked, lent_cleared}
@@ -50,19 +49,15 @@ pub next_place : (k size : ℕ) → (k + 1) * size ≡ k * size + size
 next_place k size = omega arith
 
 due_test : (task : Task) (g p : ℕ) → IsDue task g p → nat_lt g p ≡ is_late task
-due_test Mark g p le = le-ltb g p le
-due_test Clear g p lt = lt-ltb g p lt
+due_test task g p le = grind (arith, nat_tests, le-ltb, lt-ltb)
 
 pub may_do : (table other : TableId) (plan : PhasePlan) (task : Task) (g end : ℕ) (old new : WriterState) (ms : List MarkerShape) → table ≡ other → plan ≡ old.plan → IsDue task g old.published → AreLent table g end old new ms → All (MayDo other plan task) ms
-may_do table other plan task g end old new ms t is due h k d lt =
-    let m = h.each k d lt in record { table_is = m.table_is ∙ t; plan_is = is ∙ sym m.plan_is; published_is = m.published_is ∙ due_test task g old.published due }
+may_do table other plan task g end old new ms t is due h k d lt = grind (arith, nat_tests, due_test, h.each)
 
 -- what each marker became
 partner : (R : MarkerShape → MarkerShape → Type 0) (ms ns : List MarkerShape) (m : MarkerShape) → length ns ≡ length ms → ((i : ℕ) (d : MarkerShape) → i < length ms → R (get_or ms i d) (get_or ns i d)) → Contains ms m → (n : MarkerShape) × Contains ns n × R m n
 partner R ms ns m long each on =
-    let k = on.0 in
-    let lt = on.1 in
-    (get_or ns k m, Contains-get_or ns k m (omega (arith, lt, long)), subst (λ (z : MarkerShape). R z (get_or ns k m)) on.2 (each k m lt))
+    (get_or ns on.0 m, Contains-get_or ns on.0 m (omega (arith, on.1, long)), subst (λ (z : MarkerShape). R z (get_or ns on.0 m)) on.2 (each on.0 m on.1))
 
 held_on : (R : MarkerShape → MarkerShape → Type 0) (ms ns : List MarkerShape) (ls : List Loan) → ((m n : MarkerShape) → R m n → n.state.loan.number ≡ m.state.loan.number) → length ns ≡ length ms
     → ((i : ℕ) (d : MarkerShape) → i < length ms → R (get_or ms i d) (get_or ns i d)) → All (IsHeld ms) ls → All (IsHeld ns) ls
@@ -73,8 +68,7 @@ done_tables table other task g end old new ms ns t h a k d lt = let long = a.lon
 
 -- a marker that did its task has the loan that it had
 same_number : (task : Task) (m n : MarkerShape) → HasDoneRange task m n → n.state.loan.number ≡ m.state.loan.number
-same_number Mark m n r = ap (λ (z : MarkerState). z.loan.number) r.done
-same_number Clear m n r = ap (λ (z : MarkerState). z.loan.number) r.done
+same_number task m n r = grind (arith, nat_tests)
 
 -- giving back
 pub returned_last : (ms : List MarkerShape) (m : MarkerShape) (s : WriterState) → all_returned (ms ++ m ∷ []) s ≡ all_returned ms (with_returned m.state s)

@@ -1,5 +1,5 @@
 -- The phases of a batch: there is one list of them, they are numbered on and well formed, and their entries lead over the batch.
-use Rattle.std.proofs.Common.{ℕ, suc, zero, ◌+◌, ◌<◌, ◌≡◌, Bool, true, false, List, [], ◌∷◌, ◌++◌, length, get_or, map, refl, ap, sym, ◌∙◌, arith, append_assoc, length-append, subst}
+use Rattle.std.proofs.Common.{ℕ, suc, zero, ◌+◌, ◌<◌, ◌≡◌, Bool, true, false, List, [], ◌∷◌, ◌++◌, length, get_or, map, refl, ap, sym, ◌∙◌, arith, append_assoc, length-append}
 use Rattle.std.specs.Prelude.{All, ◌≢◌, ◌↔◌, IsTrue, Result, Ok, Err, IfOk}
 use Rattle.std.proofs.lemmas.Bool.{iff_false}
 use Rattle.std.proofs.lemmas.List.{append-nil}
@@ -29,19 +29,15 @@ use Rattle.kc_engine.proofs.RelinkLemmas.{deletion_is_phase, insertion_is_phase}
 
 -- edges that there are have one phase
 pub is_one_phase : (phase : ℕ) (add : Bool) (es : List Pair) (x y : List ℕ) (g : GraphShape) (plan : PhasePlan) (plans : List PhasePlan) → es ≢ [] → plans ≡ plan ∷ [] → AreEntries phase add es x y g plan → ArePhaseOf phase add es x y g plans
-is_one_phase phase add [] x y g plan plans some alone a = absurd (some refl)
-is_one_phase phase add (e ∷ es) x y g plan plans some alone a = record { plan = plan; alone = alone; entries = a }
+is_one_phase phase add es x y g plan plans some alone a = grind (arith, nat_tests)
 
 -- the same where the plan was made, if there was memory
 pub phase_made : {E : Type 0} → (r : Result BatchPlan E) (phase m : ℕ) (add empty : Bool) (es : List Pair) (x y : List ℕ) (g : GraphShape) (plan : PhasePlan) → (IsTrue empty ↔ (es ≡ [])) → empty ≡ false → AreEntries phase add es x y g plan
     → IfOk r (λ (b : BatchPlan). b ≡ record { phases = plan ∷ []; moves = m }) → IfOk r (λ (b : BatchPlan). ArePhaseOf phase add es x y g b.phases)
-phase_made (Ok b) phase m add empty es x y g plan tells some a is =
-    is_one_phase phase add es x y g plan b.phases (iff_false tells some) (ap (λ (t : BatchPlan). t.phases) is) a
-phase_made (Err e) phase m add empty es x y g plan tells some a is = tt
+phase_made r phase m add empty es x y g plan tells some a is = grind (arith, nat_tests, is_one_phase, iff_false)
 
 pub moves_made : {E : Type 0} → (r : Result BatchPlan E) (m k : ℕ) (plan : PhasePlan) → m ≡ k → IfOk r (λ (b : BatchPlan). b ≡ record { phases = plan ∷ []; moves = m }) → IfOk r (λ (b : BatchPlan). b.moves ≡ k)
-moves_made (Ok b) m k plan e is = ap (λ (t : BatchPlan). t.moves) is ∙ e
-moves_made (Err x) m k plan e is = tt
+moves_made r m k plan e is = grind (arith, nat_tests)
 
 -- the plan of a batch, from those of its two phases
 pub plan_of : (p : Profile) (before so_far : ℕ) (g h k : GraphShape) (c : Cleaned) (x y z : List ℕ) (fallen risen plan : BatchPlan) → so_far ≡ before + phases_for c.removed → h ≡ without_edges g c.removed → k ≡ with_edges h c.added
@@ -58,9 +54,7 @@ plan_of p before so_far g h k c x y z fallen risen plan so left came low high ou
 pub plan_made : {E : Type 0} → (r : Result BatchPlan E) (p : Profile) (before so_far : ℕ) (g h k : GraphShape) (c : Cleaned) (x y z : List ℕ) (fallen risen : BatchPlan) → so_far ≡ before + phases_for c.removed → h ≡ without_edges g c.removed → k ≡ with_edges h c.added
     → AreLoweredIn p g c.removed x y → AreRaisedIn p h c.added y z → ArePhaseOf (before + 1) false c.removed x y g fallen.phases → ArePhaseOf (so_far + 1) true c.added y z k risen.phases
     → fallen.moves ≡ moved_count g.vertices x y → risen.moves ≡ moved_count h.vertices y z → IfOk r (λ (b : BatchPlan). b ≡ record { phases = fallen.phases ++ risen.phases; moves = fallen.moves + risen.moves }) → IfOk r (λ (b : BatchPlan). IsPlanOf p before g c x z b)
-plan_made (Ok b) p before so_far g h k c x y z fallen risen so left came low high out in_again fell rose is =
-    plan_of p before so_far g h k c x y z fallen risen b so left came low high out in_again fell rose is
-plan_made (Err e) p before so_far g h k c x y z fallen risen so left came low high out in_again fell rose is = tt
+plan_made r p before so_far g h k c x y z fallen risen so left came low high out in_again fell rose is = grind (arith, nat_tests, plan_of)
 
 -- the phase of these edges, if there is one
 one_phase : (phase : ℕ) (add : Bool) (es : List Pair) (x y : List ℕ) (g : GraphShape) → IsGraph g
@@ -98,26 +92,24 @@ same_between : (p : Profile) (g : GraphShape) (c : Cleaned) (x y z : List ℕ) �
 same_between p g c x y z k a b = let low = one_lowered p g c.removed x k in low.1.1 b.between b.lowered ∙ sym (low.1.1 a.between a.lowered)
 
 moved_over : (before : ℕ) (g : GraphShape) (c : Cleaned) (x b d y z : List ℕ) (plans : List PhasePlan) → b ≡ d → y ≡ z → ArePhases before g c x b y plans → ArePhases before g c x d z plans
-moved_over before g c x b d y z plans e f a =
-    subst (λ (t : List ℕ). ArePhases before g c x d t plans) f (subst (λ (t : List ℕ). ArePhases before g c x t y plans) e a)
+moved_over before g c x b d y z plans e f a = grind (arith, nat_tests)
 
 pub phases_are_one : PhasesAreOne
 phases_are_one limit s c sound cleaning =
     let k = at_state limit s sound in
     let f = fits s.graph c sound.graph cleaning in
     let one = batch_has_one_state limit s c sound cleaning in
-    let t = one.0 in
-    let a : IsAfterBatch s c t = one.1.0 in
-    let later = (at_after s.profile s.graph c s.levels t.levels k f a.levels).graph in
-    let plans = one_list s.phases s.graph c s.levels a.levels.between t.levels sound.graph later in (
+    let a : IsAfterBatch s c one.0 = one.1.0 in
+    let later = (at_after s.profile s.graph c s.levels one.0.levels k f a.levels).graph in
+    let plans = one_list s.phases s.graph c s.levels a.levels.between one.0.levels sound.graph later in (
       plans.0,
       (
-        (t, record { after = a; phases = plans.1.0 }),
+        (one.0, record { after = a; phases = plans.1.0 }),
         λ u others b.
             plans.1.1 others
             (
-            moved_over s.phases s.graph c s.levels b.after.levels.between a.levels.between u.levels t.levels others
-            (same_between s.profile s.graph c s.levels t.levels u.levels k a.levels b.after.levels)
+            moved_over s.phases s.graph c s.levels b.after.levels.between a.levels.between u.levels one.0.levels others
+            (same_between s.profile s.graph c s.levels one.0.levels u.levels k a.levels b.after.levels)
             (ap (λ (r : State). r.levels) (one.1.1 u b.after))
             b.phases
             ),
@@ -126,23 +118,18 @@ phases_are_one limit s c sound cleaning =
 
 -- how many phases these edges have
 pub phase_count_is : (phase : ℕ) (add : Bool) (es : List Pair) (x y : List ℕ) (g : GraphShape) (plans : List PhasePlan) → ArePhaseOf phase add es x y g plans → length plans ≡ phases_for es
-phase_count_is phase add [] x y g plans a = ap (λ (t : List PhasePlan). length t) a
-phase_count_is phase add (e ∷ es) x y g plans a =
-    let b : IsOnePhase phase add (e ∷ es) x y g plans = a in
-    ap (λ (t : List PhasePlan). length t) b.alone
+phase_count_is phase add es x y g plans a = grind (arith, nat_tests)
 
 -- the phase of these edges has its number
 one_number : (phase : ℕ) (add : Bool) (es : List Pair) (x y : List ℕ) (g : GraphShape) (plans : List PhasePlan) → ArePhaseOf phase add es x y g plans → (i : ℕ) → i < length plans → get_or (map (λ (p : PhasePlan). p.quiet.phase) plans) i 0 ≡ phase + i
-one_number phase add [] x y g plans a i inside = absurd (omega (arith, ap (λ (t : List PhasePlan). length t) a, inside))
-one_number phase add (e ∷ es) x y g plans a i inside = grind (arith, nat_tests)
+one_number phase add es x y g plans a i inside = grind (arith, nat_tests)
 
 -- numbers that go on from one list to another
 numbers_on : (k : ℕ) (ls rs : List PhasePlan) → ((i : ℕ) → i < length ls → get_or (map (λ (p : PhasePlan). p.quiet.phase) ls) i 0 ≡ k + i) → ((i : ℕ) → i < length rs → get_or (map (λ (p : PhasePlan). p.quiet.phase) rs) i 0 ≡ k + length ls + i)
     → (i : ℕ) → i < length (ls ++ rs) → get_or (map (λ (p : PhasePlan). p.quiet.phase) (ls ++ rs)) i 0 ≡ k + i
 numbers_on k [] rs first later i inside = later i inside ∙ omega arith
 numbers_on k (p ∷ ls) rs first later zero inside = first 0 (omega arith)
-numbers_on k (p ∷ ls) rs first later (suc i) inside =
-    numbers_on (k + 1) ls rs (λ j h. first (suc j) (omega (arith, h)) ∙ omega arith) (λ j h. later j h ∙ omega arith) i (omega (arith, inside)) ∙ omega arith
+numbers_on k (p ∷ ls) rs first later (suc i) inside = grind (arith, nat_tests, numbers_on (k + 1) ls rs (λ j h. first (suc j) (omega (arith, h)) ∙ omega arith) (λ j h. later j h ∙ omega arith) i (omega (arith, inside)))
 
 pub phases_are_numbered_on : PhasesAreNumberedOn
 phases_are_numbered_on = record { count = count; number = number }

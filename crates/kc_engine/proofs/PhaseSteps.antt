@@ -37,8 +37,7 @@ pub way_ends : (n : ℕ) (plans rest : List PhasePlan) (old new : WriterState) �
 way_ends n plans rest old new none h = grind (arith, nat_tests, append-nil, h.phase, h.vertices, h.history, h.idle)
 
 pub drop_none : (xs : List PhasePlan) → drop 0 xs ≡ xs
-drop_none [] = refl
-drop_none (x ∷ xs) = refl
+drop_none xs = grind (arith, nat_tests)
 
 pub way_at : (n : ℕ) (plans : List PhasePlan) (i : ℕ) (plan : PhasePlan) (old mid : WriterState) → i < length plans → plan ≡ get_or plans i plan → IsOnTheWay n plans (drop i plans) old mid → IsOnTheWay n plans (plan ∷ drop (i + 1) plans) old mid
 way_at n plans i plan old mid lt is h = subst (λ (zs : List PhasePlan). IsOnTheWay n plans zs old mid) (drop_more plans i plan lt ∙ ap (λ (q : PhasePlan). q ∷ drop (i + 1) plans) (sym is)) h

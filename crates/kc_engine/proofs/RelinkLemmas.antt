@@ -1,5 +1,5 @@
 -- Edges that leave a graph and come in again, and the phases in which edges leave or come in.
-use Rattle.std.proofs.Common.{ℕ, ◌≡◌, Bool, true, false, ◌||◌, ◌&&◌, List, length, refl, sym, arith}
+use Rattle.std.proofs.Common.{ℕ, ◌≡◌, Bool, true, ◌||◌, ◌&&◌, List, length, arith}
 use Rattle.std.specs.Prelude.{not}
 use Rattle.std.proofs.lemmas.Bool.Decides.{nat_tests}
 use Rattle.kc_graph.specs.Shape.{GraphShape, Pair, EdgesFrom, IsGraph, with_edges, without_edges}
@@ -10,8 +10,7 @@ use Rattle.kc_groups.specs.Laws.{IsPhase}
 use Rattle.kc_groups.proofs.lemmas.Phases.{present_in, present_after}
 
 out_and_in : (a b : Bool) → (a ≡ true → b ≡ true) → (a || (not a && b)) ≡ b
-out_and_in true b h = sym (h refl)
-out_and_in false b h = refl
+out_and_in a b h = grind (arith, nat_tests)
 
 -- the graph again where edges left and come in
 pub linked_again : (g : GraphShape) (es : List Pair) → IsGraph g → EdgesFrom g.vertices 0 0 es → AllPresent g es → with_edges (without_edges g es) es ≡ g

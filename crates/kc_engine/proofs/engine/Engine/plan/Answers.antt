@@ -15,9 +15,8 @@ done g c = ok_before c.run_phases.result c.map_err.result c.in_ok-plan.plan _ c.
 
 pub run_phases-requires-clause-fits : goal.run_phases-requires-clause-fits
 run_phases-requires-clause-fits g c κs within =
-    let e = c.self.inside in
     let asked = rw (← c.self.view_is) at c.requires.cleaning in
-    fits e.phased.adj.graph c.args.cleaned.now (c.self.invariant.sound c.if-self.false).graph (asked c.if-self.false)
+    fits c.self.inside.phased.adj.graph c.args.cleaned.now (c.self.invariant.sound c.if-self.false).graph (asked c.if-self.false)
 
 pub run_phases-requires-clause-rest : goal.run_phases-requires-clause-rest
 run_phases-requires-clause-rest g c κs within =

@@ -46,8 +46,7 @@ returns-clause-phases g c =
     let same : c.insert_phase.new.adj.graph.vertices ≡ c.args.self.now.adj.graph.vertices = ap (λ (h : GraphShape). h.vertices) c.in_ok-moves.ensures.graph ∙ vertices-with_edges c.args.self.now.adj.graph c.as_slice-edges.result.now in
     let planned = rw c.graph-2.ensures at c.in_ok-plan.ensures.entries in
     let entries = planned x y (record { before = c.levels-levels.ensures.sized ∙ sym same; after = c.in_ok-moves.ensures.raised.raisable.sized; moves = c.in_ok-moves.ensures.moves }) in
-    let later = c.insert_phase.new.adj.graph in
-    phase_made c.of_phase.result c.args.phase c.len.result true c.is_empty.result c.args.added.now x y later c.in_ok-plan.plan
+    phase_made c.of_phase.result c.args.phase c.len.result true c.is_empty.result c.args.added.now x y c.insert_phase.new.adj.graph c.in_ok-plan.plan
     c.is_empty.ensures c.if-is_empty.false (rw c.as_slice-edges.ensures at entries) c.of_phase.ensures
 
 pub returns-clause-ready : goal.returns-clause-ready

@@ -42,9 +42,7 @@ insertion_phase-requires-clause-ascending g c κs within =
 
 pub and_then-requires : goal.and_then-requires
 and_then-requires g c =
-    let x = c.args.self.now.adj.levels in
     let y = c.deletion_phase.new.self.adj.levels in
-    let z = c.insertion_phase.new.self.adj.levels in
     let h = c.deletion_phase.new.self.adj.graph in
     let same : h.vertices ≡ c.args.self.now.adj.graph.vertices =
     ap (λ (k : GraphShape). k.vertices) c.in_ok-fallen.ensures.graph ∙ vertices-without_edges c.args.self.now.adj.graph c.args.cleaned.now.removed in
@@ -53,8 +51,8 @@ and_then-requires g c =
       arith,
       c.in_ok-fallen.ensures.moves,
       c.in_ok-risen.ensures.moves,
-      count_below-le c.args.self.now.adj.graph.vertices (is_moved x y),
-      count_below-le h.vertices (is_moved y z),
+      count_below-le c.args.self.now.adj.graph.vertices (is_moved c.args.self.now.adj.levels y),
+      count_below-le h.vertices (is_moved y c.insertion_phase.new.self.adj.levels),
       same,
       few,
     )
@@ -75,7 +73,4 @@ returns-clause-plan g c = made g c
 
 pub returns-clause-well_formed : goal.returns-clause-well_formed
 returns-clause-well_formed g c =
-    let p = c.args.self.now.thresholds.profile in
-    let graph = c.args.self.now.adj.graph in
-    let levels = c.args.self.now.adj.levels in
-    well_formed_made c.and_then.result p c.args.before graph c.args.cleaned.now levels c.insertion_phase.new.self.adj.levels (made g c)
+    well_formed_made c.and_then.result c.args.self.now.thresholds.profile c.args.before c.args.self.now.adj.graph c.args.cleaned.now c.args.self.now.adj.levels c.insertion_phase.new.self.adj.levels (made g c)

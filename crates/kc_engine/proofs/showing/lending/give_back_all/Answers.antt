@@ -11,11 +11,10 @@ pub loop-turn-preserved : goal.loop-turn-preserved
 loop-turn-preserved c = elim c.match-pop.branch [
   | in-Some w ↦ let t = w.in-Some.ensures.items in
       let h = c.loop-turn.invariant in
-      let size = h.0 in
       let len = ap (length {A = MarkerShape}) t in
       let more = length-append c.pop.new.self.items (w.in-Some.marker ∷ []) in
       let went = w.writer-is ∙ w.give_back.ensures in (
-        omega (arith, size, len, more),
+        omega (arith, h.0, len, more),
         ap (λ (a : WriterShape). a.table) went ∙ h.1,
         (λ k d lt. ap (λ (m : MarkerShape). m.table) (sym (get_or_append_left c.pop.new.self.items (w.in-Some.marker ∷ []) d k lt) ∙ ap (λ (ms : List MarkerShape). get_or ms k d) (sym t)) ∙ h.2 k d (omega (arith, lt, len, more))),
         ap (λ (a : WriterShape). all_returned c.pop.new.self.items a.state) went ∙ (sym (returned_last c.pop.new.self.items w.in-Some.marker c.loop-turn.writer.state) ∙ (ap (λ (ms : List MarkerShape). all_returned ms c.loop-turn.writer.state) (sym t) ∙ h.3)),

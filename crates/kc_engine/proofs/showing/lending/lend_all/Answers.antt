@@ -17,8 +17,6 @@ loop-worker-preserved c =
     let k : ℕ = c.loop-worker._worker in
     let size : ℕ = c.range_size-size.result in
     let more = next_place k size in
-    let held = inv.4 in
-    let room = inv.5 in
     elim c.if-from-moves.branch [
       | then-from-moves w ↦
           let to : ℕ = w.range_end-to.result in
@@ -28,34 +26,29 @@ loop-worker-preserved c =
           let longer : vec_len later.markers ≡ vec_len c.loop-worker.markers + 1 = search rules in
           let wider : vec_capacity c.loop-worker.markers ≤ vec_capacity later.markers = search rules in
           let went = w.writer-is ∙ w.lend-marker.ensures.lent in
-          let inside = w.range_end-to.ensures.inside in
-          let here = w.from-is in
           let before = w.if-from-moves.true in (
             ap (λ (z : WriterShape). z.table) went ∙ inv.0,
             subst (λ (z : ℕ). AreLent old.table c.args.group.now.g z old.state later.writer.state later.markers.items) (sym w.from-is)
                 (lent_more old.table c.args.group.now.g c.loop-worker.from to old.state mid.state later.writer.state c.loop-worker.markers.items later.markers.items w.lend-marker.result inv.1 w.range_end-to.ensures.later (ap (λ (z : WriterShape). z.state) went) made pushed),
-            omega (arith, inside, here),
+            omega (arith, w.range_end-to.ensures.inside, w.from-is),
             ⊎_elim (λ (e : to ≡ c.args.group.now.moves). inl (w.from-is ∙ e))
                 (λ (e : to ≡ c.loop-worker.from + size).
                 ⊎_elim (λ (f : c.loop-worker.from ≡ c.args.group.now.moves). absurd (omega (arith, f, before)))
                 (λ (f : c.loop-worker.from ≡ k * size). inr (w.from-is ∙ (e ∙ (ap (λ (z : ℕ). z + size) f ∙ sym more))))
                 inv.3)
                 w.range_end-to.ensures.long,
-            omega (arith, longer, held),
-            omega (arith, wider, room),
+            omega (arith, longer, inv.4),
+            omega (arith, wider, inv.5),
           )
       | else-from-moves w ↦
-          let here = w.from-is in
-          let inside = inv.2 in
-          let past = w.if-from-moves.false in
           let length = ap (λ v. vec_len v) w.markers-is in
           let capacity = ap (λ v. vec_capacity v) w.markers-is in (
             ap (λ (z : WriterShape). z.table) w.writer-is ∙ inv.0,
             subst (λ (z : ℕ × WriterState × List MarkerShape). AreLent old.table c.args.group.now.g z.0 old.state z.1 z.2)
                 (λ i. (sym w.from-is i, (sym w.writer-is i).state, (sym w.markers-is i).items)) inv.1,
-            omega (arith, here, inside),
-            inl (let e : later.from ≡ c.args.group.now.moves = omega (arith, here, inside, past) in e),
-            omega (arith, length, held),
-            omega (arith, capacity, room),
+            omega (arith, w.from-is, inv.2),
+            inl (let e : later.from ≡ c.args.group.now.moves = omega (arith, w.from-is, inv.2, w.if-from-moves.false) in e),
+            omega (arith, length, inv.4),
+            omega (arith, capacity, inv.5),
           )
     ]

@@ -33,5 +33,4 @@ loop-i-preserved g c = (
 
 pub returns-clause-shown : goal.returns-clause-shown
 returns-clause-shown g c =
-    let end = c.loop-i-test.false in
-    rw (← c.show.view_is) (way_ends c.args.show.now.n c.show.inside.phases.now (drop c.loop-i.i c.show.inside.phases.now) c.args.writer.now.state c.loop-i.writer.state (drop_all c.loop-i.i c.show.inside.phases.now (omega (arith, end))) c.loop-i.invariant.2)
+    rw (← c.show.view_is) (way_ends c.args.show.now.n c.show.inside.phases.now (drop c.loop-i.i c.show.inside.phases.now) c.args.writer.now.state c.loop-i.writer.state (drop_all c.loop-i.i c.show.inside.phases.now (omega (arith, c.loop-i-test.false))) c.loop-i.invariant.2)
