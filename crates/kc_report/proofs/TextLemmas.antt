@@ -6,6 +6,7 @@ use Rattle.std.specs.Io.KnownBytes.{append_known}
 use Rattle.std.proofs.lemmas.Grind.{flat_map-append}
 use Rattle.std.proofs.lemmas.List.{append-nil}
 use Rattle.std.proofs.lemmas.List.Elements.{All-cons, All-nil}
+use Rattle.std.proofs.lemmas.Bool.Decides.{nat_tests}
 use Rattle.kc_text.specs.Printing.{printed_line}
 use Rattle.kc_text.specs.Writing.{IsPrefix}
 use Rattle.kc_text.proofs.lemmas.Writing.{append_twice, prefix_longer, prefix_then}
@@ -26,13 +27,7 @@ record IsSplit {A : Type 0} (f : A → List ℕ) (xs : List A) (i : ℕ) (d : A)
 split_at : {A : Type 0} (f : A → List ℕ) (xs : List A) (i : ℕ) (d : A) → i < length xs → IsSplit f xs i d
 split_at f [] i d h = absurd (omega arith)
 split_at f (x ∷ xs) zero d h = record { behind = flat_map f xs; here = append-nil (f x); all = ap (λ (t : List ℕ). t ++ flat_map f xs) (sym (append-nil (f x))) }
-split_at f (x ∷ xs) (suc i) d h =
-    let s = split_at f xs i d (omega arith) in
-    record {
-      behind = s.behind;
-      here = ap (λ (t : List ℕ). f x ++ t) s.here ∙ sym (append_assoc (f x) (flat_map f (take i xs)) (f (get_or xs i d)));
-      all = ap (λ (t : List ℕ). f x ++ t) s.all ∙ sym (append_assoc (f x) (flat_map f (take (suc i) xs)) s.behind);
-    }
+split_at f (x ∷ xs) (suc i) d h = grind (arith, nat_tests, split_at f xs i d (omega arith), append_assoc)
 
 -- a text was written, and none of those after it
 pub none_after : (before now : Option (List ℕ)) (lead : List ℕ) → now ≡ append_known before lead → now ≡ append_known before (lead ++ [])
@@ -93,9 +88,7 @@ phase_parts phase quiet direction old a word b z ea ew eb = rw (eb, ew, ea, z) (
 
 pub phase_filled : (plan : PhasePlan) (quiet : ℕ) (old a word b : List ℕ) → old ≡ [] → quiet ≡ length plan.quiet.edges → a ≡ (old ++ codes "phase ") ++ decimal plan.quiet.phase
     → word ≡ (codes " " ++ direction_word plan.quiet.add) ++ codes " quiet " → b ≡ (a ++ word) ++ decimal quiet → b ++ 10 ∷ [] ≡ phase_line plan
-phase_filled plan quiet old a word b z eq ea ew eb =
-    phase_parts plan.quiet.phase quiet (direction_word plan.quiet.add) old a word b z ea ew eb
-    ∙ ap (λ (n : ℕ). printed_line (codes "phase" ∷ decimal plan.quiet.phase ∷ direction_word plan.quiet.add ∷ codes "quiet" ∷ decimal n ∷ [])) eq
+phase_filled plan quiet old a word b z eq ea ew eb = grind (arith, nat_tests, phase_parts)
 
 group_parts : (phase label : ℕ) (members words old a b d f : List ℕ) → a ≡ old ++ codes "group" → b ≡ a ++ 32 ∷ (decimal phase ++ 32 ∷ decimal label) → d ≡ b ++ members → f ≡ d ++ 10 ∷ [] → words ≡ decimal label ++ members
     → f ≡ old ++ ((codes "group" ++ 32 ∷ (decimal phase ++ 32 ∷ words)) ++ 10 ∷ [])

@@ -4,6 +4,7 @@ use Rattle.std.proofs.lemmas.Bool.{cases_lt}
 use Rattle.std.proofs.lemmas.List.{append-nil}
 use Rattle.std.specs.Io.KnownBytes.{append_known}
 use Rattle.std.specs.Prelude.{Option, Result, Ok, Err}
+use Rattle.std.proofs.lemmas.Bool.Decides.{nat_tests}
 use Rattle.kc_text.specs.Writing.{IsPrefix, Appends}
 use Rattle.kc_text.specs.declared.buf.SendFault.{SendFault}
 use Rattle.kc_text.proofs.lemmas.Writing.{append_none, append_twice, prefix_longer, prefix_then}
@@ -52,9 +53,7 @@ held_none line before buf e = record { said = []; all = sym e; taken = append_no
 pub held_more : (p : Profile) (n : ℕ) (g : GraphShape) (x : List ℕ) (c : VertexCounts) (before now : Option (List ℕ)) (old new : List ℕ) → n ≡ g.vertices → c.level ≡ get_or x c.v 0 → AreCounts g x c.v (c.up, c.down)
     → IsHeldBack before now (vertex_lines (vertex_text p g x) c.v) old → new ≡ old ++ counted_line p n c → IsHeldBack before now (vertex_lines (vertex_text p g x) (c.v + 1)) new
 unfolding vertex_lines
-held_more p n g x c before now old new en el are a e =
-    let line : counted_line p n c ≡ vertex_text p g x c.v = counted_is p n g x c.v c.level c.up c.down en el are.0 are.1 in
-    record { said = a.said; all = rw (add-one, a.all, e) (append_assoc a.said old _ ∙ ap (λ (text : List ℕ). a.said ++ (old ++ text)) (sym line)); taken = a.taken }
+held_more p n g x c before now old new en el are a e = grind (arith, nat_tests, counted_is, add-one, append_assoc, are.0, are.1, a.said, a.all, a.taken)
 
 -- what was held back was written too
 pub held_sent : (before now later : Option (List ℕ)) (text held : List ℕ) → IsHeldBack before now text held → later ≡ append_known now held → later ≡ append_known before text
