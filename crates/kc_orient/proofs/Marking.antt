@@ -31,9 +31,7 @@ marking_more vertices colours stamp i w k old new is h w_is k_is room = record {
     before : (u : ℕ) → w ≢ u → has_number u (take (suc i) vertices) ≡ true → has_number u (take i vertices) ≡ true
     before u ne at =
         let step : take (suc i) vertices ≡ take i vertices ++ w ∷ [] = rw (← add-one, w_is) (take_more vertices i 0 h) in
-        let split = has_number-push u w (take i vertices) in
-        let here = ap (has_number u) (sym step) ∙ at in
-        grind (arith, nat_tests, split, here, ne)
+        grind (arith, nat_tests, ne, has_number-push u w (take i vertices), ap (has_number u) (sym step) ∙ at)
 
 pub record IsMarkedAll (vertices colours marks : List ℕ) (stamp : ℕ) : Type 0 where
   pub all : (w : ℕ) → has_number w vertices ≡ true → get_or marks (get_or colours w 0) 0 ≡ stamp

@@ -22,8 +22,7 @@ pub pigeons : (f : ℕ → ℕ) (m : ℕ) (ws : List ℕ) → ((k : ℕ) → k <
 pigeons f zero ws each = omega arith
 pigeons f (suc m) ws each =
     let last = each m (omega arith) in
-    let later = pigeons f m (without last.0 ws) (λ k h. let at = each k (omega arith) in (at.0, kept at.0 last.0 (λ e. other k h (sym at.2 ∙ ap f (sym e) ∙ last.2)) at.1, at.2)) in
-    omega (arith, later, length-without last.0 ws last.1)
+    omega (arith, length-without last.0 ws last.1, pigeons f m (without last.0 ws) (λ k h. let at = each k (omega arith) in (at.0, kept at.0 last.0 (λ e. other k h (sym at.2 ∙ ap f (sym e) ∙ last.2)) at.1, at.2)))
   where
     other : (k : ℕ) → k < m → k ≡ m → ⊥
     other k h e = absurd (omega arith)

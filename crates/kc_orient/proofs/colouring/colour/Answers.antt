@@ -7,15 +7,13 @@ use Rattle.kc_orient.proofs.colouring.colour.Goals as goal
 pub loop-level-init : goal.loop-level-init
 loop-level-init c =
     let o = c.args.orientation.now in
-    let firsts = c.in_ok-descent.descent.firsts.items in
-    let nexts = c.in_ok-descent.descent.nexts.items in
     let same = c.as_slice.ensures ∙ ap (λ (o : OrientationShape). o.levels) c.orientation.view_is in
     let linked = subst (λ (x : List ℕ). AreLinked x c.in_ok-descent.descent.firsts.items c.in_ok-descent.descent.nexts.items) same c.in_ok-descent.ensures in
     let blank : c.in_ok-colours.colours.items ≡ replicate (length c.args.orientation.now.levels) 0 = c.in_ok-colours.ensures.items_if_clones_equal (search rules) ∙ ap (λ n. replicate n 0) c.vertices.ensures.count in
     let clean : c.in_ok-marks.marks.items ≡ replicate (c.most_out.result + 1) 0 = c.in_ok-marks.ensures.items_if_clones_equal (search rules) in
     let all : c.len-level.result ≡ length c.in_ok-descent.descent.firsts.items = omega (arith, c.len-level.ensures, c.in_ok-descent.descent.firsts.ok) in
     subst (λ (l : ℕ). IsColouredTo c.args.orientation.now l 0 c.in_ok-colours.colours.items c.in_ok-marks.marks.items) (sym all)
-    (coloured_none o firsts nexts c.in_ok-colours.colours.items c.in_ok-marks.marks.items c.most_out.result linked c.most_out.ensures blank clean)
+    (coloured_none o c.in_ok-descent.descent.firsts.items c.in_ok-descent.descent.nexts.items c.in_ok-colours.colours.items c.in_ok-marks.marks.items c.most_out.result linked c.most_out.ensures blank clean)
 
 pub colour_level-requires-clause-coloured : goal.colour_level-requires-clause-coloured
 colour_level-requires-clause-coloured c =

@@ -27,12 +27,11 @@ least_free-requires-clause-fresh c = λ k h e.
 pub loop-next-preserved : goal.loop-next-preserved
 loop-next-preserved c =
     let v = c.loop-next.next - 1 in
-    let o = c.args.orientation.now in
     let at : c.loop-next.next ≡ suc (c.loop-next.next - 1) = omega (arith, c.loop-next-test.true) in
     let here = subst (λ (r : ℕ). IsColouringLevel c.args.orientation.now c.args.level r c.loop-next.colours.items c.loop-next.marks.items) at c.loop-next.invariant in
     let below : c.loop-next.next - 1 < length c.args.descent.now.nexts.items = omega (arith, c.loop-next.invariant.within, c.loop-next-test.true, c.requires.linked.sized) in
     let following = get_or_read c.args.descent.now.nexts.items v c.index-next-in-loop-next.result.now below c.index-next-in-loop-next.ensures 0 in
-    level_more o c.args.level v c.index-next-in-loop-next.result.now c.least_free.result c.args.descent.now.firsts.items c.args.descent.now.nexts.items c.loop-next.colours.items c.loop-next.marks.items c.least_free.new.marks.items c.requires.oriented c.requires.linked following here
+    level_more c.args.orientation.now c.args.level v c.index-next-in-loop-next.result.now c.least_free.result c.args.descent.now.firsts.items c.args.descent.now.nexts.items c.loop-next.colours.items c.loop-next.marks.items c.least_free.new.marks.items c.requires.oriented c.requires.linked following here
     (rw (c.out.ensures.value, c.deref.ensures.value) at c.least_free.ensures.least)
     (rw c.out.ensures.value at c.least_free.ensures.few)
     (rw at at c.least_free.ensures.marks)

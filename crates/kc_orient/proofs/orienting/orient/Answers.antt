@@ -22,11 +22,9 @@ overflow_cast-len c =
 
 pub loop-v-preserved : goal.loop-v-preserved
 loop-v-preserved c =
-    let g = c.args.graph.now in
-    let x = c.args.levels.now in
     let row : c.push_above.new.list.items ≡ c.loop-v.heads.items ++ out_neighbours c.args.graph.now c.args.levels.now c.loop-v.v = rw (c.in_ok-push_above.ensures, c.as_slice.ensures, c.neighbours.ensures.value) in
     let long : c.len.result ≡ length c.push_above.new.list.items = omega (arith, c.len.ensures, c.push_above.new.list.ok) in
-    rw (add-one, c.in_ok-push-2.ensures.items, long) (filling_more g x c.loop-v.v c.loop-v.starts.items c.loop-v.heads.items c.push_above.new.list.items c.loop-v.invariant row)
+    rw (add-one, c.in_ok-push-2.ensures.items, long) (filling_more c.args.graph.now c.args.levels.now c.loop-v.v c.loop-v.starts.items c.loop-v.heads.items c.push_above.new.list.items c.loop-v.invariant row)
 
 filled : (c : In_ok-copy) → IsFilling c.args.graph.now c.args.levels.now c.args.graph.now.vertices c.loop-v.starts.items c.loop-v.heads.items
 filled c =
