@@ -1,6 +1,7 @@
 -- Opening of the queue, and the steps in which a client comes and is taken in.
 use Rattle.std.proofs.Common.{◌≡◌, ◌≢◌, ◌⊎◌, ℕ, zero, suc, ◌+◌, ◌<◌, ◌≤◌, List, [], ◌∷◌, ◌++◌, Option, Some, None, Contains, length, set, sym, refl, ap, ◌∙◌, subst, inl, inr, ⊎_elim, arith, le_refl}
 use Rattle.std.proofs.lemmas.List.Elements.{Contains-push_cases}
+use Rattle.std.proofs.lemmas.Bool.Decides.{nat_tests}
 use mathlib.Core.Option.{some, some-injective, some-ne-none}
 use mathlib.Core.Logic.{dite}
 use native.Mathlib.Decide.{dec_le, ℕ_discrete}
@@ -37,8 +38,7 @@ opens holds begun = record {
 }
   where
     first : (j : ℕ) (v : Role) → get_elem? (first_role ∷ []) j ≡ some v → PassHolds 0 (record { clients = 0; taken = []; joined = [] }) (λ c. None) (λ c. []) j v
-    first Rattle.std.proofs.Common.zero v e = subst (PassHolds 0 (record { clients = 0; taken = []; joined = [] }) (λ c. None) (λ c. []) 0) (some-injective first_role v e) (refl, refl)
-    first (Rattle.std.proofs.Common.suc j) v e = absurd (some-ne-none v (sym e))
+    first j v e = grind (arith, nat_tests)
 
 at_end : (views : List Role) (w v : Role) (k : ℕ) → get_elem? (views ++ w ∷ []) k ≡ some v → (get_elem? views k ≡ some v) ⊎ ((k ≡ length views) × (w ≡ v))
 at_end [] w v zero e = inr (refl, some-injective w v e)
@@ -48,9 +48,7 @@ at_end (x ∷ xs) w v (suc k) e = ⊎_elim (λ (t : get_elem? xs k ≡ some v). 
 
 -- client c comes, with a pass of its own
 coming_stays : (drainer : ℕ) (d new : Drained) (pass : ℕ → Option ℕ) (sent : ℕ → List Item) (c j n : ℕ) → pass c ≡ None → j ≡ drainer → (k : ℕ) (v : Role) → k ≢ j → PassHolds drainer d pass sent k v → PassHolds drainer new (changed pass c (Some n)) sent k v
-coming_stays drainer d new pass sent c j n none mine k Spent other so = so
-coming_stays drainer d new pass sent c j n none mine k (Submits s) other so = (changed_else pass c (Some n) s.client (λ e. let t : Some k ≡ None = sym so.0 ∙ ap pass e ∙ none in cc) ∙ so.0, so.1)
-coming_stays drainer d new pass sent c j n none mine k (Drains e) other so = absurd (other (so.0 ∙ sym mine))
+coming_stays drainer d new pass sent c j n none mine k it other so = grind (arith, nat_tests, changed_else)
 
 forks_one : (holds : Holds) (j : ℕ) (d : Drained) → Forks (IsKept holds) j (Drains d) (with_client (Drains d)) (client_of (Drains d))
 forks_one holds j d items views r at =
@@ -84,9 +82,7 @@ none_stays : (pass : ℕ → Option ℕ) (k c : ℕ) → pass c ≡ None → cha
 none_stays pass k c none = dite (ℕ_discrete c k) (λ e. changed_here pass k None c e) (λ n. changed_else pass k None c n ∙ none)
 
 leaving_stays : (drainer : ℕ) (d new : Drained) (pass : ℕ → Option ℕ) (sent : ℕ → List Item) (c j gone : ℕ) → pass c ≡ Some gone → j ≡ drainer → (k : ℕ) (v : Role) → k ≢ j → PassHolds drainer d pass sent k v → k ≢ gone → PassHolds drainer new (changed pass c None) sent k v
-leaving_stays drainer d new pass sent c j gone theirs mine k Spent other so apart = so
-leaving_stays drainer d new pass sent c j gone theirs mine k (Submits s) other so apart = (changed_else pass c None s.client (λ e. apart (same_pass pass s.client c k gone so.0 theirs e)) ∙ so.0, so.1)
-leaving_stays drainer d new pass sent c j gone theirs mine k (Drains e) other so apart = absurd (other (so.0 ∙ sym mine))
+leaving_stays drainer d new pass sent c j gone theirs mine k it other so apart = grind (arith, nat_tests, changed_else, same_pass)
 
 merges_one : (holds : Holds) (j : ℕ) (d : Drained) (gone : ℕ) (s : Submitted) → Merges (IsKept holds) j (Drains d) gone (Submits s) (took_in (Drains d) (Submits s)) Spent
 merges_one holds j d gone s items views r at two at' =

@@ -1,5 +1,5 @@
 -- Lists of updates, and functions of a client's number.
-use Rattle.std.proofs.Common.{◌≡◌, ◌≢◌, ℕ, suc, ◌+◌, ◌==◌, true, false, cond, List, [], ◌∷◌, ◌++◌, length, map, sym, refl, ap, ◌∙◌, append_assoc, arith}
+use Rattle.std.proofs.Common.{◌≡◌, ◌≢◌, ℕ, ◌+◌, ◌==◌, true, false, cond, List, [], ◌∷◌, ◌++◌, length, map, sym, refl, ap, ◌∙◌, append_assoc, arith}
 use Rattle.std.proofs.lemmas.Bool.Decides.{nat_tests}
 use Rattle.std.proofs.lemmas.List.{append-nil}
 use Rattle.std.proofs.lemmas.List.Elements.{filter-append}
@@ -30,9 +30,7 @@ of_other c u us n = let t : (u.client == c) ≡ false = grind (arith, nat_tests,
 
 pub numbered_more : (c n : ℕ) (items : List Item) (item : Item) → numbered c n (items ++ item ∷ []) ≡ numbered c n items ++ record { client = c; serial = n + length items; item = item } ∷ []
 numbered_more c n [] item = let e : n ≡ n + 0 = omega arith in λ i. record { client = c; serial = e i; item = item } ∷ []
-numbered_more c n (x ∷ xs) item =
-    let e : (n + 1) + length xs ≡ n + suc (length xs) = omega arith in
-    ap (λ us. record { client = c; serial = n; item = x } ∷ us) (numbered_more c (n + 1) xs item ∙ ap (λ k. numbered c (n + 1) xs ++ record { client = c; serial = k; item = item } ∷ []) e)
+numbered_more c n (x ∷ xs) item = grind (arith, nat_tests, numbered_more c (n + 1) xs item)
 
 -- the first of numbered updates are numbered
 pub first_numbered : (c n : ℕ) (us vs : List Update) (items : List Item) → us ++ vs ≡ numbered c n items → us ≡ numbered c n (map (λ u. u.item) us)
@@ -61,10 +59,7 @@ last_added (first ∷ next ∷ batches) batch u = ap (λ bs. first ∷ bs) (last
 
 -- one more update of client c, and its effect on the numbers
 pub of_more : (c : ℕ) (us : List Update) (u : Update) (items : List Item) → u.client ≡ c → u.serial ≡ length items → updates_of c us ≡ numbered c 0 items → updates_of c (us ++ u ∷ []) ≡ numbered c 0 (items ++ u.item ∷ [])
-of_more c us u items own next whole =
-    let e : length items ≡ 0 + length items = omega arith in
-    let one : u ≡ record { client = c; serial = 0 + length items; item = u.item } = (λ i. record { client = own i; serial = (next ∙ e) i; item = u.item }) in
-    of_append c us (u ∷ []) ∙ ap (λ vs. vs ++ updates_of c (u ∷ [])) whole ∙ ap (λ vs. numbered c 0 items ++ vs) (of_own c u [] own ∙ ap (λ v. v ∷ []) one) ∙ sym (numbered_more c 0 items u.item)
+of_more c us u items own next whole = grind (arith, nat_tests, of_append, of_own, numbered_more)
 
 -- one more update of another client
 pub of_same : (c : ℕ) (us : List Update) (u : Update) → u.client ≢ c → updates_of c (us ++ u ∷ []) ≡ updates_of c us

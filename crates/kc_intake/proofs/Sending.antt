@@ -1,5 +1,6 @@
 -- A client's push keeps the rule, and the facts that the client learns if the queue is full.
-use Rattle.std.proofs.Common.{◌≡◌, ◌≢◌, ℕ, List, [], ◌∷◌, ◌++◌, Option, Some, None, length, sym, refl, ap, ◌∙◌, subst, append_assoc}
+use Rattle.std.proofs.Common.{◌≡◌, ◌≢◌, ℕ, List, [], ◌∷◌, ◌++◌, Option, Some, None, length, sym, refl, ap, ◌∙◌, subst, append_assoc, arith}
+use Rattle.std.proofs.lemmas.Bool.Decides.{nat_tests}
 use mathlib.Core.Logic.{dite}
 use native.Mathlib.Decide.{ℕ_discrete}
 use Rattle.crossbeam_queue.specs.Fifo.{Pushes, Learns}
@@ -8,7 +9,7 @@ use Rattle.kc_intake.specs.declared.updates.Update.{Update}
 use Rattle.kc_intake.specs.declared.roles.Submitted.{Submitted}
 use Rattle.kc_intake.specs.declared.roles.Drained.{Drained}
 use Rattle.kc_intake.specs.declared.roles.Role.{Role}
-use Rattle.kc_intake.specs.declared.roles.Role.TheVariants.{Spent, Submits, Drains}
+use Rattle.kc_intake.specs.declared.roles.Role.TheVariants.{Submits}
 use Rattle.kc_intake.specs.Updates.{updates_of, numbered, all_updates}
 use Rattle.kc_intake.specs.Views.{submitted_of}
 use Rattle.kc_intake.specs.Rule.{PassHolds, IsKept}
@@ -22,9 +23,7 @@ seen holds pass v items views r at = record { views = views; pass = pass; kept =
 
 -- the knowledge of another pass stays true
 others_stay : (drainer : ℕ) (state : Drained) (pass : ℕ → Option ℕ) (sent : ℕ → List Item) (c j : ℕ) (new : List Item) → pass c ≡ Some j → (k : ℕ) (v : Role) → k ≢ j → PassHolds drainer state pass sent k v → PassHolds drainer state pass (changed sent c new) k v
-others_stay drainer state pass sent c j new mine k Spent other so = so
-others_stay drainer state pass sent c j new mine k (Submits s) other so = (so.0, so.1 ∙ sym (changed_else sent c new s.client (λ e. other (same_pass pass s.client c k j so.0 mine e))))
-others_stay drainer state pass sent c j new mine k (Drains d) other so = so
+others_stay drainer state pass sent c j new mine k it other so = grind (arith, nat_tests, changed_else, same_pass)
 
 sends_one : (holds : Holds) (n j : ℕ) (s : Submitted) (u : Update) → u.client ≡ s.client → u.serial ≡ length s.items → StaysAtSubmit holds n s u.item → Pushes (IsKept holds) n j (Submits s) u (sends (Submits s) u)
 sends_one holds n j s u own next stays items views few r at =

@@ -4,6 +4,7 @@ use Rattle.std.proofs.lemmas.List.{append-nil, nil_from_length}
 use Rattle.std.proofs.lemmas.List.Elements.{All-push, Contains-get_or, Contains-push}
 use Rattle.std.proofs.lemmas.List.FromFn.{map-range_with_len_more}
 use Rattle.std.specs.List.{range_with_len}
+use Rattle.std.proofs.lemmas.Bool.Decides.{nat_tests}
 use mathlib.Core.List.{IsPrefix}
 use Rattle.crossbeam_queue.specs.Fifo.{Held}
 use Rattle.crossbeam_queue.specs.Passes.{Pass, view, IsSamePass}
@@ -12,7 +13,6 @@ use Rattle.kc_intake.specs.declared.updates.Update.{Update}
 use Rattle.kc_intake.specs.declared.roles.Submitted.{Submitted}
 use Rattle.kc_intake.specs.declared.roles.Drained.{Drained}
 use Rattle.kc_intake.specs.declared.roles.Role.{Role}
-use Rattle.kc_intake.specs.declared.roles.Role.TheVariants.{Drains}
 use Rattle.kc_intake.specs.Causes.{Holds, HoldsOf, HeldAtStep, StaysAtSubmit}
 use Rattle.kc_intake.specs.private.Steps.{with_client, client_of, with_last, with_added, adds, at_drainer, took_in, drain_learns}
 use Rattle.kc_intake.specs.Updates.{updates_of, updates_in, all_updates, AreNumbered}
@@ -45,15 +45,10 @@ client_stays old new c is table same = (λ i. record { intake = intake_of (table
 
 -- the drainer after a step in which its state became f of its old state
 pub drainer_went : (f : Drained → Drained) (old new : Pass Update Role) → IsDrainer old → IsSamePass old new → view new ≡ at_drainer f (view old) → IsDrainer new × (drained_of (view new) ≡ f (drained_of (view old)))
-drainer_went f old new is same went =
-    let now : view new ≡ Drains (f (drained_of (view old))) = went ∙ ap (at_drainer f) is.role_is in
-    let state : drained_of (view new) ≡ f (drained_of (view old)) = ap drained_of now in
-    (record { role_is = now ∙ ap Drains (sym state); free = same.2 ∙ is.free }, state)
+drainer_went f old new is same went = grind (arith, nat_tests, is.role_is, same.2, is.free)
 
 pub drainer_stays : (old new : Pass Update Role) (before batch : List Update) (d : DrainerShape) → drainer_shape old before ≡ d → new.table_id ≡ old.table_id → view new ≡ view old → batch ≡ [] → drainer_shape new batch ≡ record d { batch = [] }
-drainer_stays old new before batch d is table same none =
-    (λ i. record { intake = intake_of (table i); batch = none i; clients = (drained_of (same i)).clients; taken = (drained_of (same i)).taken; joined = (drained_of (same i)).joined })
-    ∙ ap (λ (z : DrainerShape). record z { batch = [] }) is
+drainer_stays old new before batch d is table same none = grind (arith, nat_tests)
 
 -- an update was added to the batch that was begun last
 pub added : (holds : Holds) (old new : Pass Update Role) (batch more : List Update) (u : Update) (d : DrainerShape) → IsDrainer old → drainer_shape old batch ≡ record d { batch = batch; taken = d.taken ++ batch ∷ [] } → IsSamePass old new → adds holds (view old) u (view new) → more ≡ batch ++ u ∷ [] → All (λ v. v.client < d.clients) batch

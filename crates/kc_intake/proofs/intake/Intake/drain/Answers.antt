@@ -25,9 +25,7 @@ pop_as-requires-in-loop-self-clause-rule g c = (adds_from _ _ _ c.loop-self.inva
 pub loop-self-preserved : goal.loop-self-preserved
 loop-self-preserved g c =
     let i = c.loop-self.invariant in
-    let pushed = c.push-in-loop-self.ensures in
-    let is_ok = c.unwrap-in-loop-self.ensures in
-    let more : c.push-in-loop-self.new.self.items ≡ c.loop-self.drainer-inside.batch.items ++ c.in-Some-pop_as.next ∷ [] = grind (arith, common_steps, pushed.items, is_ok) in
+    let more : c.push-in-loop-self.new.self.items ≡ c.loop-self.drainer-inside.batch.items ++ c.in-Some-pop_as.next ∷ [] = grind (arith, common_steps, c.push-in-loop-self.ensures.items, c.unwrap-in-loop-self.ensures) in
     let now = added _ c.loop-self.drainer-inside.pass c.pop_as-in-loop-self.new.pass _ _ _ c.args.drainer.now i.drainer i.shape c.in-Some-pop_as.ensures.queue c.in-Some-pop_as.ensures.rule more i.clients in record {
       shape = now.0;
       drainer = now.1;

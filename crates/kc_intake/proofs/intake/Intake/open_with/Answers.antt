@@ -14,8 +14,6 @@ another-requires-clause-rule g c = forks_from _ _ _ c.loop-number.invariant.0.ro
 pub loop-number-preserved : goal.loop-number-preserved
 loop-number-preserved g c =
     let i = c.loop-number.invariant in
-    let is_ok = c.unwrap.ensures in
-    let pushed = c.push.ensures.items in
-    let more : c.push.new.self.items ≡ c.loop-number.opened.items ++ client_shape c.another.result ∷ [] = grind (arith, common_steps, pushed, is_ok) in
+    let more : c.push.new.self.items ≡ c.loop-number.opened.items ++ client_shape c.another.result ∷ [] = grind (arith, common_steps, c.push.ensures.items, c.unwrap.ensures) in
     let now = client_came c.loop-number.pass c.another.new.pass c.another.result _ _ _ _ i.0 c.another.ensures.queue.0 c.another.ensures.rule.0 i.2 c.another.ensures.rule.1 (ap intake_of c.another.ensures.queue.1.0) i.3 more in
     (now.0, c.another.ensures.queue.0.0 ∙ i.1, now.1, now.2, grind (arith, common_steps), grind (arith, common_steps))
