@@ -1,4 +1,5 @@
 use Rattle.std.proofs.Common.{rules, ◌≡◌, ◌<◌, ◌≤◌, ◌^◌, refl, sym, ap, ◌∙◌, subst, arith}
+use Rattle.std.proofs.lemmas.Bool.Decides.{nat_tests}
 use Rattle.kc_groups.specs.declared.plans.PhasePlan.{PhasePlan}
 use Rattle.kc_words.specs.Packed.{packed}
 use Rattle.kc_store.specs.Plans.{Move}
@@ -39,9 +40,7 @@ pack-requires-clause-label c =
     subst (λ k. k < 16777216) (label_same _ _ (sym a.label_is ∙ m.1)) (vertex_fits _ _ c.self.invariant.small a.label_in)
 
 pub pack-requires-clause-phase : goal.pack-requires-clause-phase
-pack-requires-clause-phase c =
-    let plan = c.requires.plan ∙ ap (λ z. z.state.plan) (sym c.self.view_is) in
-    subst (λ k. k < 16777216) (sym (c.phase_of.ensures ∙ (ap (λ (p : PhasePlan). p.quiet.phase) plan ∙ c.self.invariant.formed.phase_is))) (phase_fits _ c.self.invariant.phase_in)
+pack-requires-clause-phase c = grind (arith, nat_tests, phase_fits, c.requires.plan, c.phase_of.ensures, c.self.invariant.formed.phase_is, c.self.invariant.phase_in)
 
 pub store-requires-2 : goal.store-requires-2
 store-requires-2 c =
