@@ -1,5 +1,5 @@
-use Rattle.std.proofs.Common.{ap}
-use Rattle.kc_graph.specs.Shape.{GraphShape}
+use Rattle.std.proofs.Common.{arith}
+use Rattle.std.proofs.lemmas.Bool.Decides.{nat_tests}
 use Rattle.kc_cert.proofs.EdgeSteps.{rest_ascends, rest_is_absent, let_in_edges}
 use Rattle.kc_cert.proofs.filling.let_in.Goals as goal
 
@@ -10,11 +10,7 @@ pub insert_all-requires-clause-absent : goal.insert_all-requires-clause-absent
 insert_all-requires-clause-absent c = rw c.as_slice.ensures.value (rest_is_absent c.args.graph.now c.args.waiting.now.items c.requires.ascending)
 
 pub returns-clause-vertices : goal.returns-clause-vertices
-returns-clause-vertices c =
-    let new = rw c.as_slice.ensures.value at c.in_ok-insert_all.ensures.ok in
-    ap (λ (g : GraphShape). g.vertices) (let_in_edges _ _ c.args.waiting.now.items c.requires.ascending new)
+returns-clause-vertices c = grind (arith, nat_tests, let_in_edges, c.as_slice.ensures.value, c.in_ok-insert_all.ensures.ok, c.requires.ascending)
 
 pub returns-clause-edges : goal.returns-clause-edges
-returns-clause-edges c =
-    let new = rw c.as_slice.ensures.value at c.in_ok-insert_all.ensures.ok in
-    ap (λ (g : GraphShape). g.edges) (let_in_edges _ _ c.args.waiting.now.items c.requires.ascending new)
+returns-clause-edges c = grind (arith, nat_tests, let_in_edges, c.as_slice.ensures.value, c.in_ok-insert_all.ensures.ok, c.requires.ascending)

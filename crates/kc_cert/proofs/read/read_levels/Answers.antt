@@ -1,7 +1,8 @@
-use Rattle.std.proofs.Common.{◌+◌, ◌-◌, ◌<◌, ◌≡◌, ◌∙◌, ◌++◌, ◌∷◌, [], length, take, length-set, sym, arith}
+use Rattle.std.proofs.Common.{◌+◌, ◌-◌, ◌<◌, ◌∙◌, ◌++◌, ◌∷◌, [], length, take, length-set, sym, arith}
 use Rattle.std.proofs.lemmas.List.{take_all, take_more_set}
 use Rattle.std.specs.Prelude.{Err}
 use Rattle.std.proofs.lemmas.Result.{err_from_is_err_and}
+use Rattle.std.proofs.lemmas.Bool.Decides.{nat_tests}
 use Rattle.kc_cert.specs.Documents.{AtBody}
 use Rattle.kc_cert.proofs.LevelSteps.{level_fits, level_step, capped_more}
 use Rattle.kc_cert.proofs.Stepping.{reaches_on, answers_before, answers_misfit}
@@ -18,11 +19,7 @@ returns-in_err-level-clause-levels g c =
     rw (p.1, p.2) (answers_before _ _ _ _ (Err c.in_err-level.field-0.0) c.loop-v.invariant.same (answers_misfit (AtBody (record { profile = c.args.profile; graph = c.args.graph.now; levels = take v xs }) 0 0 0 (n - v)) (λ l. AtBody (record { profile = c.args.profile; graph = c.args.graph.now; levels = take v xs ++ l ∷ [] }) 0 0 0 (n - (v + 1))) t _ _ _ _ step c.in_ok-token.ensures.token c.in_err-level.ensures.fits))
 
 pub returns-clause-levels : goal.returns-clause-levels
-returns-clause-levels g c =
-    let v = c.loop-v.v in
-    let none : c.vertices-n.result - v ≡ 0 = omega (arith, c.loop-v-test.false) in
-    let all : take v c.loop-v.levels ≡ c.loop-v.levels = take_all v c.loop-v.levels (omega (arith, c.loop-v-test.false, c.loop-v.invariant.sized)) in
-    rw (none, all) at c.loop-v.invariant.same
+returns-clause-levels g c = grind (arith, nat_tests, take_all, c.loop-v-test.false, c.loop-v.invariant.sized, c.loop-v.invariant.same)
 
 pub loop-v-preserved : goal.loop-v-preserved
 loop-v-preserved g c =

@@ -1,3 +1,5 @@
+use Rattle.std.proofs.Common.{arith}
+use Rattle.std.proofs.lemmas.Bool.Decides.{nat_tests}
 use Rattle.kc_text.specs.WholeLines.{whole_line}
 use Rattle.kc_cert.proofs.NamedLines.{says_edge, says_level}
 use Rattle.kc_cert.proofs.Saying.{told_token, told_kept_token}
@@ -14,5 +16,4 @@ returns-in-Some-numbers_after-clause-token g c =
     told_token line _ _ _ (says_level _ _ _ c.in-Some-numbers_after.ensures.says) (c.pass_line-number-in-Some-numbers_after.ensures.line _)
 
 pub returns-clause-token : goal.returns-clause-token
-returns-clause-token g c =
-    rw c.give_back.ensures (told_kept_token c.in_ok-line.line c.kind_of-kind.result _ _ c.kind_of-kind.ensures c.in_ok-line.ensures.line)
+returns-clause-token g c = grind (arith, nat_tests, told_kept_token, c.give_back.ensures, c.kind_of-kind.ensures, c.in_ok-line.ensures.line)

@@ -1,14 +1,12 @@
-use Rattle.std.proofs.Common.{◌∙◌, refl, arith}
+use Rattle.std.proofs.Common.{◌∙◌, arith}
 use Rattle.std.proofs.lemmas.Result.{err_from_is_err_and}
+use Rattle.std.proofs.lemmas.Bool.Decides.{nat_tests}
 use Rattle.kc_cert.proofs.EdgeRows.{all_edges, row_printed, last_printed}
 use Rattle.kc_cert.proofs.Written.{writes_start, writes_on, writes_fault, writes_end}
 use Rattle.kc_cert.proofs.write.write_edges.Goals as goal
 
 pub loop-v-init : goal.loop-v-init
-loop-v-init g c = record {
-  text = rw (all_edges c.args.graph.now.edges) (writes_start _ _);
-  faults = refl;
-}
+loop-v-init g c = grind (arith, nat_tests, all_edges, writes_start)
 
 pub returns-in_err-write_row-clause-text : goal.returns-in_err-write_row-clause-text
 returns-in_err-write_row-clause-text g c =
