@@ -1,5 +1,5 @@
-use Rattle.std.proofs.Common.{inl, inr, sym, arith, subst}
-use Rattle.kc_delete.specs.private.Settling.{WaitsOrMeets}
+use Rattle.std.proofs.Common.{arith}
+use Rattle.std.proofs.lemmas.Bool.Decides.{nat_tests}
 use Rattle.kc_delete.proofs.SettlingLemmas.{ends_at, end_index}
 use Rattle.kc_delete.proofs.rounds.add_short_ends.Goals as goal
 
@@ -13,7 +13,4 @@ pub returns-clause-looked : goal.returns-clause-looked
 returns-clause-looked c = λ v end.
     let at = end_index v c.args.removed.now (0, 0) end in
     let both = c.loop-e.invariant.1 at.0 (omega (arith, at.1)) in
-    elim at.2 [
-      | inl low ↦ subst (WaitsOrMeets c.args.capped.th.now.profile c.args.capped.adj.now.graph c.args.capped.adj.now.levels c.loop-e.waiting) (sym low) both.0
-      | inr high ↦ subst (WaitsOrMeets c.args.capped.th.now.profile c.args.capped.adj.now.graph c.args.capped.adj.now.levels c.loop-e.waiting) (sym high) both.1
-    ]
+    grind (arith, nat_tests, at.2)

@@ -1,18 +1,12 @@
-use Rattle.std.proofs.Common.{◌≡◌, List, length, ap, ◌∙◌, arith}
-use Rattle.kc_graph.specs.Shape.{GraphShape}
+use Rattle.std.proofs.Common.{arith}
+use Rattle.std.proofs.lemmas.Bool.Decides.{nat_tests}
 use Rattle.kc_graph.proofs.lemmas.Changes.{vertices-without_edges}
 use Rattle.kc_graph.proofs.lemmas.Counts.{count_below-le}
-use Rattle.kc_levels.specs.declared.moves.Move.{Move}
-use Rattle.kc_levels.specs.Moved.{is_moved, moved_count}
 use Rattle.kc_levels.proofs.lemmas.Moves.{length-moves_between}
 use Rattle.kc_delete.proofs.rounds.delete_rounds.Goals as goal
 
 pub overflow_cast-result : goal.overflow_cast-result
-overflow_cast-result g c =
-    let same : c.delete_phase.new.adj.graph.vertices ≡ c.args.adj.now.graph.vertices = ap (λ (k : GraphShape). k.vertices) c.in_ok-moves.ensures.graph ∙ vertices-without_edges c.args.adj.now.graph c.args.removed.now in
-    let long : length c.in_ok-moves.moves ≡ moved_count c.delete_phase.new.adj.graph.vertices c.args.adj.now.levels c.delete_phase.new.adj.levels = ap (λ (ms : List Move). length ms) c.in_ok-moves.ensures.moves ∙ length-moves_between _ c.args.adj.now.levels c.delete_phase.new.adj.levels in
-    omega (arith, c.len.ensures, long, count_below-le c.delete_phase.new.adj.graph.vertices (is_moved c.args.adj.now.levels c.delete_phase.new.adj.levels), same, rw c.graph.ensures at c.vertices-n.ensures.small, rw c.graph.ensures at c.vertices-n.ensures.count)
+overflow_cast-result g c = grind (arith, nat_tests, vertices-without_edges, length-moves_between, count_below-le, c.in_ok-moves.ensures.graph, c.in_ok-moves.ensures.moves, c.len.ensures, c.graph.ensures, c.vertices-n.ensures.small, c.vertices-n.ensures.count)
 
 pub returns-clause-moves : goal.returns-clause-moves
-returns-clause-moves g c =
-    c.len.ensures ∙ ap (λ (ms : List Move). length ms) c.in_ok-moves.ensures.moves ∙ length-moves_between _ c.args.adj.now.levels c.delete_phase.new.adj.levels
+returns-clause-moves g c = grind (arith, nat_tests, length-moves_between, c.len.ensures, c.in_ok-moves.ensures.moves)

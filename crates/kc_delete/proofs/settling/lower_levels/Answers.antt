@@ -1,4 +1,5 @@
 use Rattle.std.proofs.Common.{◌<◌, length, arith, ◌∙◌}
+use Rattle.std.proofs.lemmas.Bool.Decides.{nat_tests}
 use Rattle.kc_delete.specs.private.Waiting.{IsTaken}
 use Rattle.kc_delete.proofs.SettlingLemmas.{settling_sifted, after_fall, work_taken}
 use Rattle.kc_delete.proofs.settling.lower_levels.Goals as goal
@@ -20,6 +21,4 @@ loop-v-preserved-in-Continue-branch-4 g c =
     )
 
 pub loop-v-smaller : goal.loop-v-smaller
-loop-v-smaller g c =
-    let t : IsTaken c.args.th.now.profile c.loop-v.adj.graph c.loop-v.adj.levels c.loop-v.waiting c.next.new.self c.in-Some.v = rw c.in-Some.is at c.in_ok-v.ensures.some in
-    work_taken _ _ c.args.adj.now.graph _ _ _ _ t
+loop-v-smaller g c = grind (arith, nat_tests, work_taken, c.in-Some.is, c.in_ok-v.ensures.some)
