@@ -1,5 +1,5 @@
 //! A session: batches beside readers.
-ghost use Rattle.std.specs.Prelude.{◌≡◌, ◌≤◌, ◌<◌, ◌^◌, ◌++◌, [], false, length, All, IfOk};
+ghost use Rattle.std.specs.Prelude.{◌≡◌, ◌≤◌, ◌<◌, ◌^◌, ◌++◌, [], false, None, length, All, IfOk};
 ghost use Rattle.std.specs.Thread.{IsSync};
 ghost use Rattle.kc_text.specs.Writing.{Appends, WriteCause};
 ghost use Rattle.kc_batch.specs.Batches.{batches_left};
@@ -10,6 +10,7 @@ ghost use Rattle.kc_session.specs.Asking.{HaveRun};
 ghost use Rattle.kc_session.specs.Faults.{FaultCause};
 ghost use Rattle.kc_session.specs.ReaderLines.{reader_lines};
 ghost use Rattle.kc_session.specs.private.AskLists.{IsAskList};
+ghost use Rattle.kc_session.specs.private.Audiences.{shown_to};
 ghost use Rattle.kc_session.specs.private.Running.{IsReadyFor, AreRun, WritesBody, batches_for, header_for};
 ghost use Rattle.kc_session.specs.SessionText.{session_text, WritesSession};
 ghost use Rattle.kc_session.specs.States.{start, IsOpen};
@@ -156,7 +157,32 @@ fn run_beside_readers<R: Threads + Sync, S: Source + Send, K: Sink + Send, G: Ga
     Ok(Ended::with(counts, engine, replies, levels.as_slice()))
 }
 
-// Runs the part after the head without readers. No store is opened, and the levels of the vertices are the engine's.
+// Runs the batches of an engine without an audience, and writes the lines after them. The levels of the vertices are
+// the engine's.
+fn run_alone<R: Threads + Sync, S: Source, K: Sink, G: Gate + Sync>(
+    watched: &mut Watched<'_>,
+    context: &SessionContext<'_, R, G>,
+    lines: &mut LineReader,
+    src: &mut S,
+    sink: &mut K,
+) -> Result<Ended, SessionFault>
+    requires report { context.now.report ≡ Report.Lines }
+    requires ready { IsReadyFor context.now.n watched.old }
+    requires start { watched.old.engine.state ≡ start context.now.profile context.now.n }
+    requires alone { shown_to watched.old.audience ≡ None }
+    ensures text { WritesBody (header_for context.now.n context.now.profile []) lines.old (S.left src.old) (K.taken sink.old) (K.taken sink.new) result }
+    ensures cause { FaultCause (S.faults src.old) (S.faults src.new) (K.faults sink.old) (K.faults sink.new) result }
+{
+    let counts = run_batches(context, watched, lines, src, sink)?;
+    let engine = &watched.engine;
+    let levels = engine.levels().as_slice();
+    let alloc = context.rounds.alloc();
+    let mut buf = LineBuf::new(alloc);
+    write_tail(alloc, &mut buf, sink, engine, levels)?;
+    Ok(Ended::with(counts, engine, 0, levels))
+}
+
+// Runs the part after the head without readers. No store is opened.
 fn run_without_readers<R: Threads + Sync, S: Source, K: Sink, G: Gate + Sync>(
     context: &SessionContext<'_, R, G>,
     lines: LineReader,
@@ -173,13 +199,10 @@ fn run_without_readers<R: Threads + Sync, S: Source, K: Sink, G: Gate + Sync>(
         engine,
         audience: Audience::Nobody,
     };
-    let counts = run_batches(context, &mut watched, &mut lines, src, sink)?;
-    let engine = &watched.engine;
-    let levels = engine.levels().as_slice();
-    let alloc = context.rounds.alloc();
-    let mut buf = LineBuf::new(alloc);
-    write_tail(alloc, &mut buf, sink, engine, levels)?;
-    Ok(Ended::with(counts, engine, 0, levels))
+    let ended = run_alone(&mut watched, context, &mut lines, src, sink);
+    // Dropped by a call, since an engine that ends with its scope is dear to prove.
+    drop(watched);
+    ended
 }
 
 /// Runs the part of an input after its header, batches beside readers, and writes the text of the session
