@@ -112,13 +112,13 @@ sed '/^reader 0/s/=0$/=1/' "$out" | "$program" audit | grep -qx 'unexplained rea
 # Lists that are long enough to go to threads. In the first batch 24,576 vertices begin to rise at once, in the second
 # 49,152 that have a neighbour above them. In `turns` a long batch cuts the vertices into ranges, 45 short ones make one
 # range of them again, and so on. With one worker they stay one range. Then a strip of vertices comes in, and goes out
-# again. In the strip each vertex is joined to the next two.
+# again. In the strip each vertex is joined to the next two. Its lines come in descending order, so they are sorted.
 awk 'function pairs(n, further) { for (v = 0; v < n; v++) print v, v + further }
   BEGIN { print "kcore 1\nvertices 73728\nbatch"; pairs(12288, 12288); print "end\nbatch"; pairs(24576, 24576); pairs(24576, 49152); print "end" }' >"$long"
 awk 'function joins(sign, from, to, further) { print "batch"; for (v = from; v < to; v++) { print sign, v, v + further; print sign, v, v + further + 1 } print "end" }
   function turn(further) { joins("+", 0, 30000, further); joins("-", 3000, 6000, further); for (i = 0; i < 45; i++) joins("+", 700 * i, 700 * i + 3, further + 2); joins("-", 9000, 12000, further) }
   BEGIN { print "kcore 1\nvertices 40000"; turn(1); turn(5); turn(9); joins("+", 5000, 35000, 13) }' >"$turns"
-awk 'function strip(sign) { print "batch"; for (v = 0; v + 2 < 140000; v++) { print sign, v, v + 1; print sign, v, v + 2 } print "end" }
+awk 'function strip(sign) { print "batch"; for (v = 139997; v >= 0; v--) { print sign, v, v + 1; print sign, v, v + 2 } print "end" }
   BEGIN { print "kcore 1\nvertices 140000"; strip("+"); strip("-") }' >"$strip"
 for input in "$long" "$turns" "$strip"; do
   "$program" run 1 <"$input" >"$err"
@@ -213,7 +213,7 @@ fi
 # A run with one worker starts no thread. With four it starts as many each time. It starts fewer if some list or the
 # lines of a batch aren't cut for them, or if there are fewer processors.
 if command -v strace >/dev/null && strace -f -qq -o "$err" true 2>"$out"; then
-  for threads in 1:0 4:75; do
+  for threads in 1:0 4:81; do
     strace -f -qq -e trace=clone,clone3 -e signal=none -o "$err" "$program" run ${threads%:*} <"$strip" >"$out"
     started=$(grep -c 'clone3\?(.*CLONE_THREAD' "$err")
     if [ ${threads%:*} -gt "$(nproc)" ]; then
