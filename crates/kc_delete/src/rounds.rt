@@ -73,13 +73,13 @@ fn add_short_ends(
 /// - a vertex that begins to wait and one that falls cost a call of `LevelAdj::desired` each;
 /// - a fall costs two more passes over the neighbours. No bound on the steps is promised: that a vertex seldom falls
 ///   twice isn't proved;
-/// - the fallen vertices are sorted;
+/// - the fallen vertices are put in order (`moves_of`);
 /// - the levels up to the greatest one under which a vertex waited are passed over, once or more often.
 ///
-/// So a phase has no pass over the vertices. Memory is taken for the vertices that wait, for those of a round that
-/// fall, for the fallen vertices and for the moves. The vertices that wait have a list for each level up to the
-/// greatest one under which a vertex waited. While 2,048 edges or more are unlinked, each takes 8 bytes, and 8 more
-/// while the halves of the edges are sorted.
+/// A phase passes over all vertices only if a quarter of them fall, or if `LevelAdj::unlink_all` makes the counts
+/// afresh. Memory is taken for the vertices that wait, for those of a round that fall, for the fallen vertices and for
+/// the moves. The vertices that wait have a list for each level up to the greatest one under which a vertex waited.
+/// While 2,048 edges or more are unlinked, each takes 8 bytes, and 8 more while the halves of the edges are sorted.
 pub fn delete_phase<R: Threads + Sync, G: Gate + Sync, L: Ledger>(
     rounds: &Rounds<R, G>,
     th: &Thresholds,

@@ -26,18 +26,20 @@ pub fn moved_count(before: &Levels, after: &Levels) -> u32
     count
 }
 
-// If at least a quarter of the vertices moved, they are listed by a pass over all levels. That takes 2 to 4 nanoseconds
+// If at least a quarter of the vertices moved, they are listed by a pass over all levels. That takes 1 to 2 nanoseconds
 // a level, and a sort by digits about 8 a vertex of the list.
 const MOST_LEVELS: usize = 4;
 
-// Returns whether a pass over all levels takes less time than a sort of the vertices that moved.
+// Returns whether a pass over all levels takes less time than a sort of the vertices that moved. There are never more
+// levels than `MAX_VERTICES`. No contract of the callers says so, and the test is evidence for the check.
 fn are_dense(count: usize, levels: usize) -> bool
     ensures { OnTrue result (levels ≤ MAX_VERTICES) }
 {
     levels <= MAX_VERTICES as usize && levels / MOST_LEVELS <= count
 }
 
-// Returns the vertices whose level differs, ascending. One pass over the levels. Fails only if memory runs out.
+// Returns the vertices whose level differs, ascending. One pass over the levels. `count` is how many there are, for the
+// memory. Fails only if memory runs out.
 fn list_moved(
     alloc: Global,
     before: &Levels,
@@ -60,7 +62,7 @@ fn list_moved(
     Ok(moved)
 }
 
-// Puts the vertices whose level differs in ascending order. Each is there once.
+// Sorts these vertices, all whose level differs, or lists them anew if they are many. Each is there once.
 fn sort(alloc: Global, before: &Levels, after: &Levels, vertices: &mut Vec<u32>)
     requires sized { length after.now ≡ length before.now }
     requires moved { (v : ℕ) → has_number v vertices.old.items ≡ is_moved before.now after.now v }

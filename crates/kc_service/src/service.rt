@@ -140,7 +140,9 @@ impl<'a, R: Threads + Sync> Service<'a, R> {
     /// After each fault but `Memory` the service is unchanged. After `Memory` it is unchanged too, or it has halted.
     /// Once it has halted, its graph and levels are gone, and readers keep the state before the batch.
     ///
-    /// Cost: that of `clean_by`, `Engine::plan` and `Engine::show`, with no pass over all vertices or edges.
+    /// Cost: that of `clean_by`, `Engine::plan` and `Engine::show`. It passes over all vertices only for a phase with
+    /// 4,096 edges or more, or with an edge for every 16th vertex. So it does if every fourth vertex moves, and once
+    /// after many short phases. It passes over all edges only for a phase with as many.
     pub fn apply(&mut self, items: &[Item]) -> Result<Applied, ApplyFault>
         ensures table { self.new.table ≡ self.old.table }
         ensures vertices { self.new.vertices ≡ self.old.vertices }

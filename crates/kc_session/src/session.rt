@@ -200,7 +200,7 @@ fn run_without_readers<R: Threads + Sync, S: Source, K: Sink, G: Gate + Sync>(
         audience: Audience::Nobody,
     };
     let ended = run_alone(&mut watched, context, &mut lines, src, sink);
-    // Dropped by a call, since an engine that ends with its scope is dear to prove.
+    // Dropped by a call, since an engine that ends with its scope is slow to prove.
     drop(watched);
     ended
 }

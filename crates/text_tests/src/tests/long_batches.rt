@@ -1,4 +1,5 @@
-// Long batches, whose lines several workers share. What a line says is known by its number.
+// Long batches, whose lines several workers share. Each line has its own two numbers, so a lost, doubled or moved item
+// shows.
 
 use crate::tests::support::{Bench, LIMITS, input_of, put};
 use kc_batch::{Ahead, Next, Rules, await_batch};
@@ -8,7 +9,7 @@ use kc_text::{NullSink, Reason};
 use std::thread::Threads;
 
 // The lines within a batch, of 18 bytes each. A reader takes 64, 128 and 256 KiB before it has all the others at once.
-// Of those it walks 64 KiB alone. Two workers share the rest in two parts, and more workers in four.
+// Of those it walks 64 KiB alone. Two workers share the rest in two parts, three in three, and more in four.
 const LINES: u32 = 50_000;
 
 // The place of a line of another kind, in the last part.
@@ -19,7 +20,7 @@ fn ends_at(place: u32) -> (u32, u32) {
     (place % 1000, 1000 + place / 1000)
 }
 
-// Returns an input of a `batch` line, the lines of the items, of which another stands at `PLACE`, and its last line.
+// Returns an input: a `batch` line, the lines of the items with `other` in place of that at `PLACE`, and `last`.
 fn text_of(rt: &impl Bench, other: &str, last: &str) -> Vec<u8> {
     let alloc = rt.alloc();
     let mut text = Vec::with_capacity(alloc, 1_000_000).expect(rt, "memory");
