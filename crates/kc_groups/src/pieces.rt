@@ -13,9 +13,9 @@ use std::ops::Range;
 use std::thread;
 use std::thread::Threads;
 
-// Moves are cut into at most one piece for each `LEAST_LINKED` moves. So a piece costs far more than to start and join
-// a thread.
-const LEAST_LINKED: usize = 8_192;
+// Moves are cut into at most one piece for each `LEAST_LINKED` moves. Each piece joins most of the moves once more in a
+// forest of its own. So fewer than twice as many take one thread no more time than several.
+const LEAST_LINKED: usize = 65_536;
 
 // The most pieces. The forest of each takes 4 bytes for every move, and one thread goes through all of them.
 const MOST_PIECES: u32 = 8;

@@ -84,7 +84,7 @@ fn plan_labelled(
 ///
 /// - steps for the vertices that move, their neighbours and the edges of the phase, whatever the number of vertices;
 /// - threads for the neighbours: the moves are cut into a piece for each worker, but at most into 8. A piece has some
-///   8,192 moves or more;
+///   65,536 moves or more;
 /// - 4 bytes a move besides the plan; with several pieces also 4 bytes a move for each piece.
 ///
 /// One thread does all other work. The plan doesn't depend on the workers. The workspace is clean before and
