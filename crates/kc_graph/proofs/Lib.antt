@@ -11,6 +11,7 @@ mod EdgeListLemmas
 mod DigitLemmas
 mod OrderLemmas
 mod RangeLemmas
+mod PlaceLemmas
 mod DecidingLemmas
 mod KeyLemmas
 mod BatchLemmas

@@ -162,11 +162,9 @@ fn has_isolation(items: &[Item]) -> bool
 /// The vertices of the items are below n, and there are at most `MAX_ITEMS` items. The answer is the same for any
 /// number of workers. Fails only if memory runs out.
 ///
-/// With at most 1 worker no thread is started. With 2 or more, one thread deals 65,536 keys or more to ranges, unless
-/// they are in order. Threads share the ranges: up to one a worker, with 16,384 keys or so for each. From 8,192 keys on
-/// they share the look-ups, with 4,096 keys or so for each. As many threads as the runtime has sort 65,536 keys or more
-/// if there are more than 2,097,152 vertices. They also sort 65,536 edges or more of a batch with an isolation. All
-/// else costs what `clean` costs, in memory too.
+/// With at most 1 worker no thread is started. With 2 or more, as many threads as the runtime has sort a list of 65,536
+/// keys or edges or more. From 8,192 keys on, threads share the look-ups, up to one a worker with 4,096 keys or so for
+/// each. All else costs what `clean` costs, in memory too.
 pub fn clean_by<R: Threads + Sync>(
     rt: &R,
     alloc: Global,
@@ -204,13 +202,10 @@ pub fn clean_by<R: Threads + Sync>(
 /// Without isolations threads share the look-ups as in `clean_by` with 64 workers. Each has lists of its own, which are
 /// put together, so these take memory twice.
 ///
-/// Keys that come in order cost one pass, if they are 2,048 or more. Others are dealt to buckets four times, with two
-/// passes each time. From 65,536 on they are dealt once before, to at most 4,096 ranges, and then range by range.
-/// Threads share the ranges as in `clean_by` with 64 workers. To deal keys takes memory for them twice, and for at most
-/// 4,096 counters a thread. To deal them to ranges takes at most 4,096 counters more.
-///
-/// As many threads as the runtime has sort 65,536 edges or more of a batch with an isolation. They also sort 65,536
-/// keys or more if there are more than 2,097,152 vertices.
+/// As many threads as the runtime has sort a list of 65,536 keys or edges or more. The calling thread alone sorts a
+/// shorter one. If it has 2,048 keys or more, it deals them to buckets four times, with two passes each time. Meanwhile
+/// it takes memory for the keys twice and for at most 4,096 counters. Keys that come in order cost one pass. With one
+/// worker (`clean_by`) 65,536 keys or more are dealt once before, to at most 4,096 ranges, and then range by range.
 pub fn clean<R: Threads + Sync>(
     rt: &R,
     alloc: Global,

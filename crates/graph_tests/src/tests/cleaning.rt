@@ -334,8 +334,8 @@ fn drawn_items(rt: &impl Abort, alloc: Global, random: &mut Random, n: u32, coun
     items
 }
 
-// Keys that are few, dealt as a whole, or dealt by ranges that up to four threads share, on few and on many vertices.
-// The same items are cleaned by the walk for isolations too, with one more of a vertex that no item names.
+// Keys that are few, dealt as a whole, dealt by ranges, or sorted by threads, on few and on many vertices. The same
+// items are cleaned by the walk for isolations too, with one more of a vertex that no item names.
 #[test]
 fn sorted_keys_come_to_what_a_walk_does(rt: HostRuntime) {
     let mut random = Random::new(3);
@@ -345,19 +345,15 @@ fn sorted_keys_come_to_what_a_walk_does(rt: HostRuntime) {
         let graph = graph(&rt, rt.alloc(), n, &pairs);
         let mut items = drawn_items(&rt, rt.alloc(), &mut random, n - 1, count);
         check_items(&rt, n, &items);
-        let mut all = Vec::new(rt.alloc());
-        for workers in [1, 2, 4] {
-            let cleaned = clean_by(&rt, rt.alloc(), workers, &graph, &items).expect(&rt, "memory");
-            all.push(cleaned).expect(&rt, "memory");
-        }
+        let alone = clean_by(&rt, rt.alloc(), 1, &graph, &items).expect(&rt, "memory");
+        let shared = clean_by(&rt, rt.alloc(), 2, &graph, &items).expect(&rt, "memory");
         items.push(Isolate { v: n - 1 }).expect(&rt, "memory");
         check_items(&rt, n, &items);
         let walked = clean(&rt, rt.alloc(), &graph, &items).expect(&rt, "memory");
         let (removed, added) = (walked.removed.as_slice(), walked.added.as_slice());
         let counts = (walked.loops, walked.repeats, walked.idle.saturating_sub(1));
-        for cleaned in &all {
-            assert!(rt; has_given(cleaned, removed, added, counts));
-        }
+        assert!(rt; has_given(&alone, removed, added, counts));
+        assert!(rt; has_given(&shared, removed, added, counts));
     }
 }
 
