@@ -14,8 +14,8 @@ pub fn meets_lower(at: Standing<'_>) -> bool
     level == 0 || at.th.low(at.th.group(level - 1)) <= at.adj.at_least_below(at.v)
 }
 
-// Returns whether the vertex has enough neighbours from the level below on to stand on the level, which isn't above its
-// own.
+// Returns whether the vertex has enough neighbours on `level - 1` or above to stand on `level`, which is 1 to its own
+// level.
 fn is_held(at: Standing<'_>, level: u16) -> bool
     requires positive { 1 ≤ level }
     requires under { level ≤ level_of at }

@@ -89,8 +89,9 @@ fn pair_of(word: &[u8], mark: u8) -> Option<Reply>
     }
 }
 
-/// Reads the pairs of the words at or after `from` into `pairs`, in place of its content. Returns whether each word is
-/// a pair. If not, `pairs` holds some of them.
+/// Reads the words at or after `from`, each a vertex and a level with this mark between them, into `pairs`, in place of
+/// its content. Returns whether each word is such a pair. If not, `pairs` holds those before it. Fails only if memory
+/// runs out.
 pub fn read_pairs(
     text: &[u8],
     from: usize,
