@@ -69,7 +69,7 @@ fn isolation(v: Option<u32>) -> Kind
     }
 }
 
-// Returns the meaning of a line of two words. u and v are their numbers, or None for a word that is no number.
+// Returns the meaning of a line of two words, which have the numbers u and v. A word that is no number has None.
 fn unsigned(first: &[u8], u: Option<u32>, v: Option<u32>) -> Kind
     ensures { result ≡ unsigned first.now u v }
 {
@@ -102,8 +102,8 @@ fn kind_of_two(first: &[u8], second: &[u8]) -> Kind
     unsigned(first, read_number(first), read_number(second))
 }
 
-// Returns the meaning of a line of a sign and two words. u and v are the numbers of the words, or None for a word that
-// is no number.
+// Returns the meaning of a line of a sign and two words, which have the numbers u and v. A word that is no number has
+// None.
 fn signed(sign: &[u8], u: Option<u32>, v: Option<u32>) -> Kind
     ensures { result ≡ signed sign.now u v }
 {
