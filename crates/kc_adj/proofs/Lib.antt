@@ -1,4 +1,5 @@
 pub mod lemmas
+mod AfreshLemmas
 mod Counted
 mod Moving
 mod LiftLemmas

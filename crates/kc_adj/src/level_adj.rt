@@ -207,7 +207,7 @@ impl LevelAdj {
     ///
     /// Costs what `Graph::par_insert_all` costs, and each edge changes four counts. All counts are made afresh instead
     /// if the graph had no edges, and the list has half as many as there are vertices. That costs a look at each vertex
-    /// on level 0, and two passes over the neighbours of each other one. Only the time depends on the crew.
+    /// on level 0, and a pass over the neighbours of each other one. Only the time depends on the crew.
     pub fn link_all<R: Threads + Sync, L: Ledger>(
         &mut self,
         crew: &Crew<'_, R>,
@@ -224,7 +224,7 @@ impl LevelAdj {
     {
         self.graph.par_insert_all(crew, edges)?;
         if afresh::are_many(edges, &self.graph) {
-            afresh::count_afresh(crew, &self.graph, &self.levels, &mut self.counts);
+            afresh::count_afresh(crew, &self.graph, self.levels.as_slice(), &mut self.counts);
         } else {
             links::count_edges(&self.graph, &self.levels, &mut self.counts, edges);
         }
@@ -254,7 +254,7 @@ impl LevelAdj {
     {
         self.graph.par_remove_all(crew, edges)?;
         if afresh::are_many(edges, &self.graph) {
-            afresh::count_afresh(crew, &self.graph, &self.levels, &mut self.counts);
+            afresh::count_afresh(crew, &self.graph, self.levels.as_slice(), &mut self.counts);
         } else {
             links::uncount_edges(&self.graph, &self.levels, &mut self.counts, edges);
         }
@@ -331,11 +331,15 @@ impl LevelAdj {
 
     /// Does what `lift_all` does, by threads if the list is long.
     ///
-    /// Only the time depends on the crew. The vertices are cut into a piece for each worker, but at most one for each
-    /// full 4,096 vertices. So with one worker, or fewer than 8,192 vertices, it is `lift_all`, and takes no memory.
+    /// Only time and memory depend on the crew. If the list is a quarter of all vertices or more, and they have half of
+    /// all neighbours or more, all counts are made afresh. That costs a look at each vertex that `new` has on level 0,
+    /// and a pass over the neighbours of each other one. So it visits at most twice as many neighbours as it counts
+    /// steps for. If the graph has 32,768 vertices or more, threads share it. It takes no memory.
     ///
-    /// Otherwise each piece goes to a thread of its own if one can be made. The thread passes over the neighbours and
-    /// writes nothing. Then one thread writes what the others found. Memory is taken for that:
+    /// Otherwise the list is cut into a piece for each worker, but at most one for each full 4,096 vertices. So with
+    /// one worker, or fewer than 8,192 vertices in the list, it is `lift_all`, and takes no memory. Else each piece
+    /// goes to a thread of its own if one can be made. The thread passes over the neighbours and writes nothing. Then
+    /// one thread writes what the others found. Memory is taken for that:
     ///
     /// - 12 bytes a vertex;
     /// - 4 to 8 bytes for each neighbour that stays and may gain;

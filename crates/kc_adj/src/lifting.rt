@@ -3,7 +3,7 @@
 //!
 //! `specs/private/Lifting` defines when each vertex gains.
 
-ghost use Rattle.std.specs.Prelude.{◌≡◌, ◌+◌, ◌-◌, ◌<◌, ◌≤◌, ◌^◌, ℕ, cond, true, length, slice_index, slice_set};
+ghost use Rattle.std.specs.Prelude.{◌≡◌, ◌+◌, ◌-◌, ◌<◌, ◌≤◌, ◌^◌, ℕ, All, cond, true, length, slice_index, slice_set};
 ghost use Rattle.kc_graph.specs.Numbers.{has_number};
 ghost use Rattle.kc_graph.specs.Shape.{IsGraph};
 ghost use Rattle.kc_levels.specs.LevelList.{at_least, IsBelow};
@@ -128,6 +128,17 @@ pub fn lift_counts<L: Ledger>(
         let (own, below) = pass(lift, counts, v);
         renew(lift, counts, v, own, below);
         steps.add(graph.neighbours(v).len());
+        steps.tick();
+    }
+}
+
+/// Counts a step for each vertex of the list, and one for each of its neighbours.
+pub fn count_steps<L: Ledger>(lift: &Lift<'_>, vertices: &[u32], steps: &mut Steps<L>)
+    requires { All (λ v. v < lift.now.graph.vertices) vertices.now }
+    ensures { steps.new ≡ steps.old + lift_cost lift.now vertices.now }
+{
+    for v in vertices {
+        steps.add(lift.graph.neighbours(*v).len());
         steps.tick();
     }
 }

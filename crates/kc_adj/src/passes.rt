@@ -1,5 +1,6 @@
 //! Vertices that go up together, with passes over their neighbours by threads. Each thread passes over the neighbours
-//! of a piece of the list and writes no count. Then one thread writes what the threads found, in order.
+//! of a piece of the list and writes no count. Then one thread writes what the threads found, in order. If the list has
+//! most of the graph, all counts are made afresh instead.
 //!
 //! `specs/private/Passing` defines what is found.
 
@@ -9,8 +10,9 @@ ghost use Rattle.kc_adj.specs.LeveledGraph.{IsAdjacency};
 ghost use Rattle.kc_adj.specs.private.Lifting.{lift_cost, AreLifted, CanGain, HaveGained, IsLifting};
 ghost use Rattle.kc_adj.specs.private.Passing.{is_touched as touches, touched_by, visit_of, ArePassed};
 
+use crate::afresh::{are_most, count_afresh};
 use crate::counts::{Counts, as_one, gain, is_reached};
-use crate::lifting::{Lift, lift_counts, renew};
+use crate::lifting::{Lift, count_steps, lift_counts, renew};
 use crate::runs::{put_where, run_of};
 use crate::steps::Steps;
 use kc_graph::Crew;
@@ -159,8 +161,9 @@ fn are_made(pieces: &[Result<Passed, AllocError>]) -> bool
 /// Does what `lift_counts` does, but threads share the passes if the list is long. Fails only if memory runs out; then
 /// all is unchanged.
 ///
-/// The pieces have one length, but the last may be shorter. Each goes to a thread of its own if one can be made.
-/// Nothing is written before all pieces are done.
+/// If the list has most of the graph (`are_most`), all counts are made afresh (`count_afresh`), without memory.
+/// Otherwise the list is cut in pieces. They have one length, but the last may be shorter. Each goes to a thread of its
+/// own if one can be made. Nothing is written before all pieces are done.
 pub fn par_lift_counts<R: Threads + Sync, L: Ledger>(
     crew: &Crew<'_, R>,
     lift: &Lift<'_>,
@@ -175,6 +178,11 @@ pub fn par_lift_counts<R: Threads + Sync, L: Ledger>(
     ensures err { OnErr result (counts.new ≡ counts.old) }
     ensures steps_kept { OnErr result (steps.new ≡ steps.old) }
 {
+    if are_most(vertices, lift.graph) {
+        count_afresh(crew, lift.graph, lift.new, counts);
+        count_steps(lift, vertices, steps);
+        return Ok(());
+    }
     let size = crew.piece_len(vertices.len(), LEAST_LIFTED);
     if vertices.len() <= size {
         lift_counts(lift, counts, vertices, steps);

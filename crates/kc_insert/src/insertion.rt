@@ -56,7 +56,8 @@ pub struct Tally {
 /// Each range takes one on each level where the sweep stops, and so do 64 levels that are passed over. The vertices
 /// that rose are put in order (`moves_of`). If there is an edge for every 16th vertex or more, all counts are compared.
 /// Threads share that if there are ranges and at least 4,096 edges. Else a pass goes over all vertices only if a
-/// quarter of them rose. The passes by which `LevelAdj::link_all` makes counts afresh aren't counted either.
+/// quarter of them rose. The passes by which `LevelAdj::link_all` makes counts afresh aren't counted either. Nor are
+/// those of `LevelAdj::par_lift_all` over vertices that didn't rise, at most as many neighbours as are counted there.
 ///
 /// Takes memory for the vertices that wait or rose and for their moves. Besides it takes 8 bytes for each neighbour
 /// that stood above a rising vertex. On one level at a time it takes 8 for each neighbour that hears of a vertex;

@@ -14,4 +14,4 @@ count_edges-requires g c = record {
 
 pub count_afresh-requires-clause-sized : goal.count_afresh-requires-clause-sized
 count_afresh-requires-clause-sized g c κs within =
-    sized_as c.par_insert_all.new.self c.self.inside.graph _ _ _ c.self.invariant (ap (λ (h : GraphShape). h.vertices) c.in_ok-par_insert_all.ensures.ok ∙ vertices-with_edges c.self.inside.graph c.args.edges.now)
+    rw c.as_slice.ensures (sized_as c.par_insert_all.new.self c.self.inside.graph _ _ _ c.self.invariant (ap (λ (h : GraphShape). h.vertices) c.in_ok-par_insert_all.ensures.ok ∙ vertices-with_edges c.self.inside.graph c.args.edges.now))
