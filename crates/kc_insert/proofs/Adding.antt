@@ -43,8 +43,8 @@ times-filter v p [] = grind (arith, nat_tests)
 times-filter v p (x ∷ xs) = grind (arith, nat_tests, times-filter v p xs)
 
 -- a vertex is in its range's part of a list as often as in the whole
-pub in_range_times : (bits v : ℕ) (xs : List ℕ) → times v (in_range bits (range_of bits v) xs) ≡ times v xs
-in_range_times bits v xs = times-filter v (λ u. eqb (range_of bits u) (range_of bits v)) xs ∙ ap (λ b. cond b (times v xs) 0) (eq-eqb (range_of bits v) (range_of bits v) refl)
+pub in_range_times : (width v : ℕ) (xs : List ℕ) → times v (in_range width (range_of width v) xs) ≡ times v xs
+in_range_times width v xs = times-filter v (λ u. eqb (range_of width u) (range_of width v)) xs ∙ ap (λ b. cond b (times v xs) 0) (eq-eqb (range_of width v) (range_of width v) refl)
 
 -- one number more at the end
 pub times_own : (v : ℕ) (xs : List ℕ) → times v (xs ++ v ∷ []) ≡ times v xs + 1

@@ -77,7 +77,7 @@ can_look p g s r long order = record {
 }
 
 -- all ranges
-module _ (p : Profile) (g : GraphShape) (s : RisingLevels) (most : ℕ) (r t : Cut) (order : AreInOrder p g s r) (looked : LookedAnew s most r.parts t.parts) (bits : t.bits ≡ r.bits) (told : t.told ≡ r.told) where
+module _ (p : Profile) (g : GraphShape) (s : RisingLevels) (most : ℕ) (r t : Cut) (order : AreInOrder p g s r) (looked : LookedAnew s most r.parts t.parts) (width : t.width ≡ r.width) (told : t.told ≡ r.told) where
   looks_at : (j : ℕ) → j < length r.parts → LooksAnew s most (part_at r j) (part_at t j)
   looks_at j at = looked.each j no_part at
 
@@ -87,8 +87,8 @@ module _ (p : Profile) (g : GraphShape) (s : RisingLevels) (most : ℕ) (r t : C
   pub looked_limit : HasLimit most t
   looked_limit j at = anew_limit s most (part_at r j) (part_at t j) (looks_at j (within j at))
 
-  range_same : (v : ℕ) → range_of t.bits v ≡ range_of r.bits v
-  range_same v = ap (λ b. range_of b v) bits
+  range_same : (v : ℕ) → range_of t.width v ≡ range_of r.width v
+  range_same v = ap (λ b. range_of b v) width
 
   same_list : {A : Type 0} (f : Part → List A) → ((j : ℕ) → j < length r.parts → f (part_at t j) ≡ f (part_at r j)) → flat_map f t.parts ≡ flat_map f r.parts
   same_list f each = joined_same f f t.parts r.parts looked.sized each
@@ -114,6 +114,7 @@ module _ (p : Profile) (g : GraphShape) (s : RisingLevels) (most : ℕ) (r t : C
 
   looked_shape : (n levels : ℕ) → IsCut n levels r → IsCut n levels t
   looked_shape n levels shape = record {
+    wide = omega (arith, shape.wide, width);
     vertex = λ v h. grind (arith, nat_tests, range_same, anew_held, looks_at, shape.vertex);
     own = λ j v at held. let it = shape.own j v (within j at) (anew_back s most (part_at r j) (part_at t j) (looks_at j (within j at)) v held) in (it.0, range_same v ∙ it.1);
     queues = λ j at. anew_same s most (part_at r j) (part_at t j) (looks_at j (within j at)) (λ (q : Part). length q.queue) (λ w us vs. refl) ∙ shape.queues j (within j at);
@@ -146,17 +147,17 @@ module _ (p : Profile) (g : GraphShape) (s : RisingLevels) (most : ℕ) (r t : C
   }
 
 -- a sweep on its way stays on its way
-module _ (p : Profile) (g : GraphShape) (s : RisingLevels) (most : ℕ) (r t : Cut) (looked : LookedAnew s most r.parts t.parts) (bits : t.bits ≡ r.bits) (told : t.told ≡ r.told) where
+module _ (p : Profile) (g : GraphShape) (s : RisingLevels) (most : ℕ) (r t : Cut) (looked : LookedAnew s most r.parts t.parts) (width : t.width ≡ r.width) (told : t.told ≡ r.told) where
   pub looked_way : IsUnderWay p g s r → IsUnderWay p g s t
   looked_way way = record {
     start = way.start;
-    order = looked_order p g s most r t way.order looked bits told;
-    sweeping = same_sweeping p g way.start (sweeping_of s r) (sweeping_of s t) (looked_same p g s most r t way.order looked bits told) way.sweeping;
+    order = looked_order p g s most r t way.order looked width told;
+    sweeping = same_sweeping p g way.start (sweeping_of s r) (sweeping_of s t) (looked_same p g s most r t way.order looked width told) way.sweeping;
   }
 
   pub looked_running : (x : List ℕ) (first now : ℕ) → IsRunning p g x first now s r → IsRunning p g x first now s t
   looked_running x first now run = record {
-    order = looked_order p g s most r t run.order looked bits told;
-    sweeping = same_sweeping p g x (sweeping_of s r) (sweeping_of s t) (looked_same p g s most r t run.order looked bits told) run.sweeping;
-    paid = same_paid g x (sweeping_of s r) (sweeping_of s t) first now (looked_same p g s most r t run.order looked bits told) run.paid;
+    order = looked_order p g s most r t run.order looked width told;
+    sweeping = same_sweeping p g x (sweeping_of s r) (sweeping_of s t) (looked_same p g s most r t run.order looked width told) run.sweeping;
+    paid = same_paid g x (sweeping_of s r) (sweeping_of s t) first now (looked_same p g s most r t run.order looked width told) run.paid;
   }

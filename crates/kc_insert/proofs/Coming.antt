@@ -19,8 +19,8 @@ module _ (step : Crossing) (p0 p1 p2 : List Part) (t0 t1 : List Tell) (can : Can
   pub told_is : told_all t1 ≡ rise_told step p0
   told_is = tells_are (λ (p : Part). met_by step (get_or p.meetings (step.level + 1) []) ++ flat_map (next_near step) p.begun) p0 t1 (long3 ∙ can.told) (λ i d e h. ap (λ (t : Tell). t.all) (tells i e d (omega (arith, h, long1))) ∙ (risen i e h).told)
 
-  pub are_told : AreTold step.bits step.is_dealt (length p2) t1
-  are_told = lists_told step.bits (length p2) step.is_dealt p1 t1 (long3 ∙ can.told ∙ sym long1) tells
+  pub are_told : AreTold step.width step.is_dealt (length p2) t1
+  are_told = lists_told step.width (length p2) step.is_dealt p1 t1 (long3 ∙ can.told ∙ sym long1) tells
       (λ i h. (risen i no_part (inside i h)).lists ∙ can.lists i no_part (inside i h) ∙ sym (long2 ∙ long1))
       (λ is i h k at. ((risen i no_part (inside i h)).dealt is).each k (omega (arith, at, long1, long2, can.lists i no_part (inside i h))))
     where
@@ -34,11 +34,11 @@ module _ (step : Crossing) (p0 p1 p2 : List Part) (t0 t1 : List Tell) (can : Can
   still_small : (j : ℕ) (d : Part) (v : ℕ) → j < length p0 → count_at (get_or p1 j d).watch v ≤ 16777216
   still_small j d v h = grind (arith, nat_tests, count_by-le-length, can.degree, can.small)
 
-  pub can_meet : CanMeet step.bits (step.level + 1) (told_all t1) p2
+  pub can_meet : CanMeet step.width (step.level + 1) (told_all t1) p2
   can_meet = record {
     held = λ v d there.
         let was = can.held v d (ap (has_number v) (sym told_is) ∙ there) in
-        (omega (arith, was.0, long1, long2), subst (λ (w : Watch). HasVertex w v) (sym (watch_is (range_of step.bits v) d was.0)) (held_still _ _ v was.1 (risen (range_of step.bits v) d was.0).risen.watched));
+        (omega (arith, was.0, long1, long2), subst (λ (w : Watch). HasVertex w v) (sym (watch_is (range_of step.width v) d was.0)) (held_still _ _ v was.1 (risen (range_of step.width v) d was.0).risen.watched));
     small = λ v d there. grind (arith, nat_tests, told_is, still_small, watch_is, can.held, can.few);
     room = λ j d h.
         let at : j < length p0 = omega (arith, h, long1, long2) in
@@ -49,7 +49,7 @@ module _ (step : Crossing) (p0 p1 p2 : List Part) (t0 t1 : List Tell) (can : Can
   pub are_few : AreFew p2
   are_few j d v h = grind (arith, nat_tests, still_small, watch_is)
 
-  pub all_risen : (most : ℕ) (p3 : List Part) → HearMore step.bits (step.level + 1) most (told_all t1) p2 p3 → AllRisen step most p0 p3
+  pub all_risen : (most : ℕ) (p3 : List Part) → HearMore step.width (step.level + 1) most (told_all t1) p2 p3 → AllRisen step most p0 p3
   all_risen most p3 s = record {
     sized = s.sized ∙ long2 ∙ long1;
     each = λ j d h. grind (arith, nat_tests, told_is, s.each);

@@ -23,8 +23,8 @@ in_same old new v t it = record {
   held = grind (arith, nat_tests, it.held.from, it.held.below, t.counts, it.place);
 }
   where
-    range : range_of new.bits v ≡ range_of old.bits v
-    range = ap (λ b. range_of b v) t.bits
+    range : range_of new.width v ≡ range_of old.width v
+    range = ap (λ b. range_of b v) t.width
 
 pub copied_none : (fresh : List ℕ) (spared : ℕ → Type 0) (a : Cut) → ((v : ℕ) → spared v) → AreCopied fresh spared a a
 copied_none fresh spared a rest = record { same = same_cut a; queues = λ j d h. refl; copied = λ levels cut. copied_first fresh (counts_of a) spared rest }
@@ -37,24 +37,24 @@ copied_on fresh p q r a b c s t both = record {
 }
 
 -- one vertex
-module _ (fresh : List ℕ) (v own : ℕ) (old new : Cut) (it : IsIn old v) (is : own ≡ get_or fresh v 0) (made : new ≡ record old { parts = set old.parts (range_of old.bits v) (record (part_of old v) { watch = record (part_of old v).watch { counts = set (part_of old v).watch.counts (v - (part_of old v).watch.first) own } }) }) where
+module _ (fresh : List ℕ) (v own : ℕ) (old new : Cut) (it : IsIn old v) (is : own ≡ get_or fresh v 0) (made : new ≡ record old { parts = set old.parts (range_of old.width v) (record (part_of old v) { watch = record (part_of old v).watch { counts = set (part_of old v).watch.counts (v - (part_of old v).watch.first) own } }) }) where
   abbrev part : Part
   part = record (part_of old v) { watch = record (part_of old v).watch { counts = set (part_of old v).watch.counts (v - (part_of old v).watch.first) own } }
 
-  at_other : (j : ℕ) (d : Part) → j ≢ range_of old.bits v → get_or new.parts j d ≡ get_or old.parts j d
-  at_other j d ne = ap (λ (r : Cut). get_or r.parts j d) made ∙ get_or-set_other old.parts (range_of old.bits v) j part d ne
+  at_other : (j : ℕ) (d : Part) → j ≢ range_of old.width v → get_or new.parts j d ≡ get_or old.parts j d
+  at_other j d ne = ap (λ (r : Cut). get_or r.parts j d) made ∙ get_or-set_other old.parts (range_of old.width v) j part d ne
 
-  at_own : (d : Part) → get_or new.parts (range_of old.bits v) d ≡ part
-  at_own d = ap (λ (r : Cut). get_or r.parts (range_of old.bits v) d) made ∙ get_or-set_same old.parts (range_of old.bits v) part d it.place
+  at_own : (d : Part) → get_or new.parts (range_of old.width v) d ≡ part
+  at_own d = ap (λ (r : Cut). get_or r.parts (range_of old.width v) d) made ∙ get_or-set_same old.parts (range_of old.width v) part d it.place
 
-  was : (d : Part) → get_or old.parts (range_of old.bits v) d ≡ part_of old v
-  was d = get_or_default old.parts (range_of old.bits v) d no_part it.place
+  was : (d : Part) → get_or old.parts (range_of old.width v) d ≡ part_of old v
+  was d = get_or_default old.parts (range_of old.width v) d no_part it.place
 
   same_one : IsSameCut old new
   same_one = record {
-    bits = ap (λ (r : Cut). r.bits) made;
+    width = ap (λ (r : Cut). r.width) made;
     told = ap (λ (r : Cut). r.told) made;
-    sized = ap (λ (r : Cut). length r.parts) made ∙ length-set old.parts (range_of old.bits v) part;
+    sized = ap (λ (r : Cut). length r.parts) made ∙ length-set old.parts (range_of old.width v) part;
     each = λ j d h. grind (arith, nat_tests, at_own, was, at_other);
     counts = λ j d h. grind (arith, nat_tests, at_own, was, length-set, at_other);
     queues = λ j d h. grind (arith, nat_tests, at_own, was, at_other);
@@ -71,17 +71,17 @@ module _ (fresh : List ℕ) (v own : ℕ) (old new : Cut) (it : IsIn old v) (is 
             | inr past ↦ inl (get_or_past (counts_of new) u 0 (omega (arith, past, length_counts (length fresh) levels new next)) ∙ sym (get_or_past fresh u 0 past))
             | inl h ↦
                 let before = count_is (length fresh) levels old cut u h in
-                let after = count_is (length fresh) levels new next u h ∙ ap (λ b. count_at (get_or new.parts (range_of b u) no_part).watch u) same_one.bits in
+                let after = count_is (length fresh) levels new next u h ∙ ap (λ b. count_at (get_or new.parts (range_of b u) no_part).watch u) same_one.width in
                 let held = (cut.vertex u h).held in
                 grind (arith, nat_tests, cases_eq u v, here, other)
           ];
         };
   }
     where
-      here : (u : ℕ) → u ≡ v → count_at (get_or new.parts (range_of old.bits u) no_part).watch u ≡ own
-      here u e = ap (λ k. count_at (get_or new.parts (range_of old.bits k) no_part).watch k) e ∙ ap (λ (p : Part). count_at p.watch v) (at_own no_part) ∙ count_here (part_of old v).watch part.watch v own it.held refl refl
+      here : (u : ℕ) → u ≡ v → count_at (get_or new.parts (range_of old.width u) no_part).watch u ≡ own
+      here u e = ap (λ k. count_at (get_or new.parts (range_of old.width k) no_part).watch k) e ∙ ap (λ (p : Part). count_at p.watch v) (at_own no_part) ∙ count_here (part_of old v).watch part.watch v own it.held refl refl
 
-      other : (u : ℕ) → HasVertex (part_of old u).watch u → u ≢ v → count_at (get_or new.parts (range_of old.bits u) no_part).watch u ≡ count_of old u
+      other : (u : ℕ) → HasVertex (part_of old u).watch u → u ≢ v → count_at (get_or new.parts (range_of old.width u) no_part).watch u ≡ count_of old u
       other u held ne = grind (arith, nat_tests, at_other, at_own, count_other, held.from, it.held)
 
 -- loops over a list

@@ -14,24 +14,24 @@ use Rattle.kc_insert.proofs.Meeting.{met_on}
 use Rattle.kc_insert.proofs.Watching.{watched_same, watched_on, count_here, count_other}
 
 -- a range hears what is in the list of its vertices, up to a place
-module _ (bits i : ℕ) (xs : List ℕ) (at : i < length xs) where
+module _ (width i : ℕ) (xs : List ℕ) (at : i < length xs) where
   abbrev item : ℕ
   item = get_or xs i 0
 
-  more : (j : ℕ) → in_range bits j (take (i + 1) xs) ≡ in_range bits j (take i xs) ++ cond (eqb (range_of bits item) j) (item ∷ []) []
-  more j = filter_more (λ v. eqb (range_of bits v) j) xs i 0 at
+  more : (j : ℕ) → in_range width j (take (i + 1) xs) ≡ in_range width j (take i xs) ++ cond (eqb (range_of width item) j) (item ∷ []) []
+  more j = filter_more (λ v. eqb (range_of width v) j) xs i 0 at
 
-  pub in_here : in_range bits (range_of bits item) (take (i + 1) xs) ≡ in_range bits (range_of bits item) (take i xs) ++ item ∷ []
-  in_here = more (range_of bits item) ∙ ap (λ b. in_range bits (range_of bits item) (take i xs) ++ cond b (item ∷ []) []) (eq-eqb (range_of bits item) (range_of bits item) refl)
+  pub in_here : in_range width (range_of width item) (take (i + 1) xs) ≡ in_range width (range_of width item) (take i xs) ++ item ∷ []
+  in_here = more (range_of width item) ∙ ap (λ b. in_range width (range_of width item) (take i xs) ++ cond b (item ∷ []) []) (eq-eqb (range_of width item) (range_of width item) refl)
 
-  pub in_other : (j : ℕ) → j ≢ range_of bits item → in_range bits j (take (i + 1) xs) ≡ in_range bits j (take i xs)
-  in_other j ne = more j ∙ ap (λ b. in_range bits j (take i xs) ++ cond b (item ∷ []) []) (ne_eqb (range_of bits item) j (λ e. ne (sym e))) ∙ append-nil (in_range bits j (take i xs))
+  pub in_other : (j : ℕ) → j ≢ range_of width item → in_range width j (take (i + 1) xs) ≡ in_range width j (take i xs)
+  in_other j ne = more j ∙ ap (λ b. in_range width j (take i xs) ++ cond b (item ∷ []) []) (ne_eqb (range_of width item) j (λ e. ne (sym e))) ∙ append-nil (in_range width j (take i xs))
 
   -- the vertex at the place is in the list of its range as often as in the whole
-  pub in_times : times item (in_range bits (range_of bits item) (take i xs)) + 1 ≤ times item xs
+  pub in_times : times item (in_range width (range_of width item) (take i xs)) + 1 ≤ times item xs
   in_times =
       let one : times item (take (i + 1) xs) ≡ times item (take i xs) + 1 = times_more item i xs at ∙ grind (arith, nat_tests) in
-      omega (arith, one, times_part item (i + 1) xs, in_range_times bits item (take i xs))
+      omega (arith, one, times_part item (i + 1) xs, in_range_times width item (take i xs))
 
 pub heard_none : (a : Part) → HasHeardLess [] a a
 heard_none a = record { part = refl; watched = watched_same a.watch; less = λ v from. omega arith }
@@ -48,24 +48,24 @@ module _ (xs : List ℕ) (v : ℕ) (a b : Part) (was : HasVertex a.watch v) (s :
   heard_one w c some is counts t = grind (arith, nat_tests, watched_on, count_here, heard_held, times_own, count_other, times_another, s.part, s.watched, t.first, s.less, was.from, s.watched.first)
 
 -- at the place i of the list the range of the vertex there hears
-module _ (bits i : ℕ) (xs : List ℕ) (old new : List Part) (at : i < length xs) (inside : range_of bits (get_or xs i 0) < length old) (s : HearLess bits (take i xs) old new) where
+module _ (width i : ℕ) (xs : List ℕ) (old new : List Part) (at : i < length xs) (inside : range_of width (get_or xs i 0) < length old) (s : HearLess width (take i xs) old new) where
   abbrev place : ℕ
-  place = range_of bits (get_or xs i 0)
+  place = range_of width (get_or xs i 0)
 
-  pub hear_next : (d : Part) (p : Part) → HasHeardLess (in_range bits place (take i xs) ++ get_or xs i 0 ∷ []) (get_or old place d) p → HearLess bits (take (i + 1) xs) old (set new place p)
+  pub hear_next : (d : Part) (p : Part) → HasHeardLess (in_range width place (take i xs) ++ get_or xs i 0 ∷ []) (get_or old place d) p → HearLess width (take (i + 1) xs) old (set new place p)
   hear_next e0 p one = record {
     sized = length-set new place p ∙ s.sized;
     each = λ j d h. grind (arith, nat_tests, get_or-set_same, in_here, get_or_default, get_or-set_other, in_other);
   }
 
 -- the same of one more each
-module _ (bits level most i : ℕ) (xs : List ℕ) (old new : List Part) (at : i < length xs) (inside : range_of bits (get_or xs i 0) < length old) (s : HearMore bits level most (take i xs) old new) where
-  pub meet_next : (d : Part) (p : Part) → HaveMet level most (get_or xs i 0 ∷ []) (get_or new (range_of bits (get_or xs i 0)) d) p → HearMore bits level most (take (i + 1) xs) old (set new (range_of bits (get_or xs i 0)) p)
+module _ (width level most i : ℕ) (xs : List ℕ) (old new : List Part) (at : i < length xs) (inside : range_of width (get_or xs i 0) < length old) (s : HearMore width level most (take i xs) old new) where
+  pub meet_next : (d : Part) (p : Part) → HaveMet level most (get_or xs i 0 ∷ []) (get_or new (range_of width (get_or xs i 0)) d) p → HearMore width level most (take (i + 1) xs) old (set new (range_of width (get_or xs i 0)) p)
   meet_next e0 p one = record {
-    sized = length-set new (range_of bits (get_or xs i 0)) p ∙ s.sized;
-    each = λ j d h. elim (cases_eq j (range_of bits (get_or xs i 0))) [
-      | inl e ↦ rw (e, get_or-set_same new (range_of bits (get_or xs i 0)) p d (omega (arith, inside, s.sized)), in_here bits i xs at) (met_on level most _ (get_or xs i 0 ∷ []) (get_or old (range_of bits (get_or xs i 0)) d) (get_or new (range_of bits (get_or xs i 0)) d) p (s.each (range_of bits (get_or xs i 0)) d inside) (rw (get_or_default new (range_of bits (get_or xs i 0)) d e0 (omega (arith, inside, s.sized))) one))
-      | inr ne ↦ rw (get_or-set_other new (range_of bits (get_or xs i 0)) j p d ne, in_other bits i xs at j ne) (s.each j d h)
+    sized = length-set new (range_of width (get_or xs i 0)) p ∙ s.sized;
+    each = λ j d h. elim (cases_eq j (range_of width (get_or xs i 0))) [
+      | inl e ↦ rw (e, get_or-set_same new (range_of width (get_or xs i 0)) p d (omega (arith, inside, s.sized)), in_here width i xs at) (met_on level most _ (get_or xs i 0 ∷ []) (get_or old (range_of width (get_or xs i 0)) d) (get_or new (range_of width (get_or xs i 0)) d) p (s.each (range_of width (get_or xs i 0)) d inside) (rw (get_or_default new (range_of width (get_or xs i 0)) d e0 (omega (arith, inside, s.sized))) one))
+      | inr ne ↦ rw (get_or-set_other new (range_of width (get_or xs i 0)) j p d ne, in_other width i xs at j ne) (s.each j d h)
     ];
   }
 

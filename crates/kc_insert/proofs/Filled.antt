@@ -27,6 +27,7 @@ pub record IsSamePart (old new : Part) : Type 0 where
 -- vertices are cut as before
 pub cut_same : (n levels : ℕ) (old new : Cut) → IsCut n levels old → IsSameCut old new → IsCut n levels new
 cut_same n levels old new s t = record {
+  wide = omega (arith, s.wide, t.width);
   vertex = λ v h. grind (arith, nat_tests, s.vertex, t.sized);
   own = λ j v h held.
       let at : j < length old.parts = omega (arith, h, t.sized) in
@@ -38,18 +39,18 @@ cut_same n levels old new s t = record {
   told = (ap (λ (ts : List Tell). length ts) t.told ∙ s.told.0 ∙ sym t.sized, λ j d h. ap (λ (ts : List Tell). length (get_or ts j d).lists) t.told ∙ s.told.1 j d (omega (arith, h, t.sized)) ∙ sym t.sized);
 }
   where
-    range : (v : ℕ) → range_of new.bits v ≡ range_of old.bits v
-    range v = ap (λ b. range_of b v) t.bits
+    range : (v : ℕ) → range_of new.width v ≡ range_of old.width v
+    range v = ap (λ b. range_of b v) t.width
 
     first : (j : ℕ) → j < length old.parts → (get_or new.parts j no_part).watch.first ≡ (get_or old.parts j no_part).watch.first
     first j at = ap (λ (p : Part). p.watch.first) (t.each j no_part at)
 
 pub same_cut : (a : Cut) → IsSameCut a a
-same_cut a = record { bits = refl; told = refl; sized = refl; each = λ j d h. refl; counts = λ j d h. refl; queues = λ j d h. refl }
+same_cut a = record { width = refl; told = refl; sized = refl; each = λ j d h. refl; counts = λ j d h. refl; queues = λ j d h. refl }
 
 pub same_on : (a b c : Cut) → IsSameCut a b → IsSameCut b c → IsSameCut a c
 same_on a b c s t = record {
-  bits = t.bits ∙ s.bits;
+  width = t.width ∙ s.width;
   told = t.told ∙ s.told;
   sized = t.sized ∙ s.sized;
   each = λ j d h. t.each j d (omega (arith, h, s.sized)) ∙ ap (λ (p : Part). record p { watch = record p.watch { counts = (get_or c.parts j d).watch.counts }; queue = (get_or c.parts j d).queue }) (s.each j d h);
@@ -87,10 +88,10 @@ module _ (p : Profile) (n : ℕ) (y fresh : List ℕ) (spared : ℕ → Type 0) 
   }
 
   -- all ranges
-  module _ (old new : Cut) (can : CanFile p n y fresh old) (bits : new.bits ≡ old.bits) (told : new.told ≡ old.told) (sized : length new.parts ≡ length old.parts) (each : (j : ℕ) (d : Part) → j < length old.parts → IsFiledPart (get_or old.parts j d) (get_or new.parts j d)) where
+  module _ (old new : Cut) (can : CanFile p n y fresh old) (width : new.width ≡ old.width) (told : new.told ≡ old.told) (sized : length new.parts ≡ length old.parts) (each : (j : ℕ) (d : Part) → j < length old.parts → IsFiledPart (get_or old.parts j d) (get_or new.parts j d)) where
     same : IsSameCut old new
     same = record {
-      bits = bits;
+      width = width;
       told = told;
       sized = sized;
       each = λ j d h. (each j d h).same.part;
@@ -103,7 +104,7 @@ module _ (p : Profile) (n : ℕ) (y fresh : List ℕ) (spared : ℕ → Type 0) 
 
     -- the range of a vertex
     of : (v : ℕ) → v < length fresh → IsFiledPart (part_of old v) (part_of new v)
-    of v h = subst (λ b. IsFiledPart (part_of old v) (get_or new.parts (range_of b v) no_part)) (sym bits) (each (range_of old.bits v) no_part (can.cut.vertex v h).place)
+    of v h = subst (λ b. IsFiledPart (part_of old v) (get_or new.parts (range_of b v) no_part)) (sym width) (each (range_of old.width v) no_part (can.cut.vertex v h).place)
 
     before_is : (v : ℕ) → v < length fresh → get_or (counts_of old) v 0 ≡ count_at (part_of old v).watch v
     before_is v h = count_is (length fresh) (top_level p n + 1) old can.cut v h
@@ -143,7 +144,7 @@ module _ (p : Profile) (n : ℕ) (y fresh : List ℕ) (spared : ℕ → Type 0) 
               | inl e ↦ inr (inr (after_is v inside ∙ sym e ∙ sym (before_is v inside) ∙ left))
               | inr ne ↦ elim (cases_lt (high p (group_of p n (get_or y v 0))) (get_or fresh v 0)) [
                 | inr few ↦ inr (inl few)
-                | inl many ↦ inl (flat_has (λ (q : Part). get_or q.queue (get_or y v 0) []) new.parts (range_of new.bits v) v no_part (cut.vertex v inside).place ((of v inside).found v (can.cut.vertex v inside).held ne many))
+                | inl many ↦ inl (flat_has (λ (q : Part). get_or q.queue (get_or y v 0) []) new.parts (range_of new.width v) v no_part (cut.vertex v inside).place ((of v inside).found v (can.cut.vertex v inside).held ne many))
               ]
             ]
       ];
@@ -191,18 +192,18 @@ module _ (p : Profile) (n : ℕ) (y fresh : List ℕ) (v : ℕ) where
       passes : test ≡ false → queue ≡ a.queue
       passes e = s.waits ∙ ap (λ b. cond b (set a.queue (get_or y v 0) (get_or a.queue (get_or y v 0) [] ++ v ∷ [])) a.queue) e
 
-  pub end_filed : (old new : Cut) (b : Part) (w : Watch) (queue : List (List ℕ)) (d0 : Part) → CanFile p n y fresh old → v < length fresh → new ≡ record old { parts = set old.parts (range_of old.bits v) b } → b ≡ record (get_or old.parts (range_of old.bits v) d0) { watch = w; queue = queue } → HasFollowed p n y v (get_or fresh v 0) (get_or old.parts (range_of old.bits v) d0).watch w (get_or old.parts (range_of old.bits v) d0).queue queue → HaveCounted p n y fresh (λ u. u ≢ v) old new
-  end_filed old new b w queue d0 can h is made s = have_counted p n y fresh (λ u. u ≢ v) old new can (ap (λ (r : Cut). r.bits) is) (ap (λ (r : Cut). r.told) is) (ap (λ (r : Cut). length r.parts) is ∙ length-set old.parts (range_of old.bits v) b) (λ j d at.
-      subst (λ (r : Cut). IsFiledPart p n y fresh (λ u. u ≢ v) (get_or old.parts j d) (get_or r.parts j d)) (sym is) (elim (cases_eq j (range_of old.bits v)) [
-        | inl e ↦ rw (e, get_or-set_same old.parts (range_of old.bits v) b d place) (subst (λ (a : Part). IsFiledPart p n y fresh (λ u. u ≢ v) a b) (get_or_default old.parts (range_of old.bits v) d0 d place) (filed_one (get_or old.parts (range_of old.bits v) d0) b w queue (subst (λ (a : Part). HasVertex a.watch v) (get_or_default old.parts (range_of old.bits v) no_part d0 place) (can.cut.vertex v h).held) room made s))
-        | inr ne ↦ rw (get_or-set_other old.parts (range_of old.bits v) j b d ne) (filed_none p n y fresh (λ u. u ≢ v) (get_or old.parts j d) (λ u held e. absurd (ne (sym (can.cut.own j u at (subst (λ (a : Part). HasVertex a.watch u) (get_or_default old.parts j d no_part at) held)).1 ∙ ap (range_of old.bits) e))))
+  pub end_filed : (old new : Cut) (b : Part) (w : Watch) (queue : List (List ℕ)) (d0 : Part) → CanFile p n y fresh old → v < length fresh → new ≡ record old { parts = set old.parts (range_of old.width v) b } → b ≡ record (get_or old.parts (range_of old.width v) d0) { watch = w; queue = queue } → HasFollowed p n y v (get_or fresh v 0) (get_or old.parts (range_of old.width v) d0).watch w (get_or old.parts (range_of old.width v) d0).queue queue → HaveCounted p n y fresh (λ u. u ≢ v) old new
+  end_filed old new b w queue d0 can h is made s = have_counted p n y fresh (λ u. u ≢ v) old new can (ap (λ (r : Cut). r.width) is) (ap (λ (r : Cut). r.told) is) (ap (λ (r : Cut). length r.parts) is ∙ length-set old.parts (range_of old.width v) b) (λ j d at.
+      subst (λ (r : Cut). IsFiledPart p n y fresh (λ u. u ≢ v) (get_or old.parts j d) (get_or r.parts j d)) (sym is) (elim (cases_eq j (range_of old.width v)) [
+        | inl e ↦ rw (e, get_or-set_same old.parts (range_of old.width v) b d place) (subst (λ (a : Part). IsFiledPart p n y fresh (λ u. u ≢ v) a b) (get_or_default old.parts (range_of old.width v) d0 d place) (filed_one (get_or old.parts (range_of old.width v) d0) b w queue (subst (λ (a : Part). HasVertex a.watch v) (get_or_default old.parts (range_of old.width v) no_part d0 place) (can.cut.vertex v h).held) room made s))
+        | inr ne ↦ rw (get_or-set_other old.parts (range_of old.width v) j b d ne) (filed_none p n y fresh (λ u. u ≢ v) (get_or old.parts j d) (λ u held e. absurd (ne (sym (can.cut.own j u at (subst (λ (a : Part). HasVertex a.watch u) (get_or_default old.parts j d no_part at) held)).1 ∙ ap (range_of old.width) e))))
       ]))
     where
-      place : range_of old.bits v < length old.parts
+      place : range_of old.width v < length old.parts
       place = (can.cut.vertex v h).place
 
-      room : get_or y v 0 < length (get_or old.parts (range_of old.bits v) d0).queue
-      room = omega (arith, can.levels.2 v (omega (arith, h, can.levels.1)), ap (λ (a : Part). length a.queue) (get_or_default old.parts (range_of old.bits v) d0 no_part place), can.cut.queues (range_of old.bits v) place)
+      room : get_or y v 0 < length (get_or old.parts (range_of old.width v) d0).queue
+      room = omega (arith, can.levels.2 v (omega (arith, h, can.levels.1)), ap (λ (a : Part). length a.queue) (get_or_default old.parts (range_of old.width v) d0 no_part place), can.cut.queues (range_of old.width v) place)
 
 pub can_file_on : (p : Profile) (n : ℕ) (y fresh : List ℕ) (old new : Cut) → CanFile p n y fresh old → IsSameCut old new → CanFile p n y fresh new
 can_file_on p n y fresh old new can same = record { few = can.few; levels = can.levels; cut = cut_same (length fresh) (top_level p n + 1) old new can.cut same }
@@ -234,8 +235,8 @@ module _ (p : Profile) (n : ℕ) (y fresh : List ℕ) where
   }
 
 -- all ranges followed their fresh counts
-pub all_filed : (p : Profile) (n : ℕ) (y fresh : List ℕ) (old new : Cut) → CanFile p n y fresh old → new.bits ≡ old.bits → new.told ≡ old.told → length new.parts ≡ length old.parts → ((j : ℕ) (d : Part) → j < length old.parts → HasFiled p n y fresh (get_or old.parts j d) (get_or new.parts j d)) → HaveCounted p n y fresh (λ v. v ≢ v) old new
-all_filed p n y fresh old new can bits told sized each = have_counted p n y fresh (λ v. v ≢ v) old new can bits told sized (λ j d h. filed_all p n y fresh (λ v. v ≢ v) (get_or old.parts j d) (get_or new.parts j d) (each j d h))
+pub all_filed : (p : Profile) (n : ℕ) (y fresh : List ℕ) (old new : Cut) → CanFile p n y fresh old → new.width ≡ old.width → new.told ≡ old.told → length new.parts ≡ length old.parts → ((j : ℕ) (d : Part) → j < length old.parts → HasFiled p n y fresh (get_or old.parts j d) (get_or new.parts j d)) → HaveCounted p n y fresh (λ v. v ≢ v) old new
+all_filed p n y fresh old new can width told sized each = have_counted p n y fresh (λ v. v ≢ v) old new can width told sized (λ j d h. filed_all p n y fresh (λ v. v ≢ v) (get_or old.parts j d) (get_or new.parts j d) (each j d h))
 
 pub can_follow : (p : Profile) (n : ℕ) (y fresh : List ℕ) (old : Cut) → CanFile p n y fresh old → (j : ℕ) (d : Part) → j < length old.parts → CanFollow p n y fresh (get_or old.parts j d)
 can_follow p n y fresh old can j d h = rw (get_or_default old.parts j d no_part h) (record {

@@ -41,5 +41,5 @@ pub near_inside : (g : GraphShape) (v u : ℕ) (p : ℕ → Bool) → IsGraph g 
 near_inside g v u p graph there = neighbour_below g.vertices v u g.edges graph (and_first (has_number u (neighbours_of v g.edges)) (p u) (sym (has_number-filter u p (neighbours_of v g.edges)) ∙ there))
 
 -- a list of vertices can be dealt to the ranges
-pub dealt_all : (bits n : ℕ) (lists : List (List ℕ)) (y : Tell) (told : List ℕ) → y ≡ record { all = told; lists = lists } → ((v : ℕ) → has_number v told ≡ true → v < n) → ((v : ℕ) → v < n → range_of bits v < length lists) → All (λ v. range_of bits v < length y.lists) y.all
-dealt_all bits n lists y told is inside ranges = rw is (all_of (λ v. range_of bits v < length lists) told (λ v there. ranges v (inside v there)))
+pub dealt_all : (width n : ℕ) (lists : List (List ℕ)) (y : Tell) (told : List ℕ) → y ≡ record { all = told; lists = lists } → ((v : ℕ) → has_number v told ≡ true → v < n) → ((v : ℕ) → v < n → range_of width v < length lists) → All (λ v. range_of width v < length y.lists) y.all
+dealt_all width n lists y told is inside ranges = rw is (all_of (λ v. range_of width v < length lists) told (λ v there. ranges v (inside v there)))

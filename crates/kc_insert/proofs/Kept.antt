@@ -23,11 +23,11 @@ use Rattle.kc_insert.proofs.Tests.{and_on}
 use Rattle.kc_insert.proofs.Together.{paid_together, sweeping_together}
 
 -- a range that keeps a vertex is there
-pub kept_at : (s : RisingLevels) (r : Cut) → AreKept s r → (v : ℕ) → rises s v ≡ true → (range_of r.bits v < length r.parts) × (has_number v (all_began r) ≡ true)
+pub kept_at : (s : RisingLevels) (r : Cut) → AreKept s r → (v : ℕ) → rises s v ≡ true → (range_of r.width v < length r.parts) × (has_number v (all_began r) ≡ true)
 kept_at s r kept v up =
     let there = kept.began v up in
-    let at : range_of r.bits v < length r.parts = grind (arith, nat_tests, cases_lt (range_of r.bits v) (length r.parts), true≢false, get_or_past) in
-    (at, joined_of (λ (q : Part). q.began) r.parts v (range_of r.bits v) at there)
+    let at : range_of r.width v < length r.parts = grind (arith, nat_tests, cases_lt (range_of r.width v) (length r.parts), true≢false, get_or_past) in
+    (at, joined_of (λ (q : Part). q.began) r.parts v (range_of r.width v) at there)
 
 -- the vertices that rise are those in the list
 pub kept_listed : (s : RisingLevels) (r : Cut) → AreKept s r → (v : ℕ) → has_number v (filter (rises s) (all_began r)) ≡ rises s v

@@ -10,25 +10,25 @@ use Rattle.kc_insert.specs.private.Ranges.{AreNew, new_part}
 use Rattle.kc_insert.specs.private.Watched.{count_at}
 
 -- the range at a place, of the vertices with these counts
-pub record IsMade (bits : ℕ) (counts : List ℕ) (levels ranges j : ℕ) (p : Part) : Type 0 where
+pub record IsMade (width : ℕ) (counts : List ℕ) (levels ranges j : ℕ) (p : Part) : Type 0 where
   pub value : p ≡ new_part levels ranges p.watch.first p.watch.counts
-  pub own : (v : ℕ) → HasVertex p.watch v → (v < length counts) × (range_of bits v ≡ j)
-  pub held : (v : ℕ) → v < length counts → range_of bits v ≡ j → HasVertex p.watch v
+  pub own : (v : ℕ) → HasVertex p.watch v → (v < length counts) × (range_of width v ≡ j)
+  pub held : (v : ℕ) → v < length counts → range_of width v ≡ j → HasVertex p.watch v
   pub same : (v : ℕ) → HasVertex p.watch v → count_at p.watch v ≡ get_or counts v 0
 
 -- the first i ranges are made
-pub record IsMaking (bits : ℕ) (counts : List ℕ) (levels ranges i : ℕ) (items : List Part) (told : List Tell) : Type 0 where
+pub record IsMaking (width : ℕ) (counts : List ℕ) (levels ranges i : ℕ) (items : List Part) (told : List Tell) : Type 0 where
   pub long : length items ≡ i
   pub tells : length told ≡ i
-  pub each : (j : ℕ) (d : Part) → j < i → IsMade bits counts levels ranges j (get_or items j d)
+  pub each : (j : ℕ) (d : Part) → j < i → IsMade width counts levels ranges j (get_or items j d)
   pub lists : (j : ℕ) (d : Tell) → j < i → get_or told j d ≡ record { all = []; lists = replicate ranges [] }
 
 -- the range of the vertices from `first` to `end`
-pub made : (bits : ℕ) (counts : List ℕ) (levels ranges j first end : ℕ) (part : List ℕ) (p : Part) → p ≡ new_part levels ranges first part → part ≡ take (end - first) (drop first counts) → first ≤ end → end ≤ length counts → ((v : ℕ) → v < length counts → range_of bits v ≡ j → (first ≤ v) × (v < end)) → ((v : ℕ) → first ≤ v → v < end → range_of bits v ≡ j) → IsMade bits counts levels ranges j p
-made bits counts levels ranges j first end part p is of order within inside own = grind (arith, nat_tests, get_or-take, get_or-drop, length-take-le, length-drop)
+pub made : (width : ℕ) (counts : List ℕ) (levels ranges j first end : ℕ) (part : List ℕ) (p : Part) → p ≡ new_part levels ranges first part → part ≡ take (end - first) (drop first counts) → first ≤ end → end ≤ length counts → ((v : ℕ) → v < length counts → range_of width v ≡ j → (first ≤ v) × (v < end)) → ((v : ℕ) → first ≤ v → v < end → range_of width v ≡ j) → IsMade width counts levels ranges j p
+made width counts levels ranges j first end part p is of order within inside own = grind (arith, nat_tests, get_or-take, get_or-drop, length-take-le, length-drop)
 
-module _ (bits : ℕ) (counts : List ℕ) (levels ranges i : ℕ) (items : List Part) (told : List Tell) (s : IsMaking bits counts levels ranges i items told) where
-  pub making_next : (p : Part) (t : Tell) → IsMade bits counts levels ranges i p → t ≡ record { all = []; lists = replicate ranges [] } → IsMaking bits counts levels ranges (i + 1) (items ++ p ∷ []) (told ++ t ∷ [])
+module _ (width : ℕ) (counts : List ℕ) (levels ranges i : ℕ) (items : List Part) (told : List Tell) (s : IsMaking width counts levels ranges i items told) where
+  pub making_next : (p : Part) (t : Tell) → IsMade width counts levels ranges i p → t ≡ record { all = []; lists = replicate ranges [] } → IsMaking width counts levels ranges (i + 1) (items ++ p ∷ []) (told ++ t ∷ [])
   making_next p t one is = record {
     long = omega (arith, length-append items (p ∷ []), s.long);
     tells = omega (arith, length-append told (t ∷ []), s.tells);
@@ -39,28 +39,29 @@ module _ (bits : ℕ) (counts : List ℕ) (levels ranges i : ℕ) (items : List 
       last : {A : Type 0} (xs : List A) (x : A) (k : ℕ) (d : A) → length xs ≡ k → get_or (xs ++ x ∷ []) k d ≡ x
       last {A} xs x k d e = ap (λ m. get_or (xs ++ x ∷ []) m d) (sym e) ∙ get_or-append_seam xs x [] d
 
-pub making_last : (bits : ℕ) (counts : List ℕ) (levels ranges i : ℕ) (items : List Part) (told : List Tell) → ranges ≤ i → i ≤ ranges → ((v : ℕ) → v < length counts → range_of bits v < ranges) → IsMaking bits counts levels ranges i items told → AreNew bits counts levels (record { bits = bits; parts = items; told = told })
-making_last bits counts levels ranges i items told end within all s = record {
+pub making_last : (width : ℕ) (counts : List ℕ) (levels ranges i : ℕ) (items : List Part) (told : List Tell) → 0 < width → ranges ≤ i → i ≤ ranges → ((v : ℕ) → v < length counts → range_of width v < ranges) → IsMaking width counts levels ranges i items told → AreNew width counts levels (record { width = width; parts = items; told = told })
+making_last width counts levels ranges i items told wide end within all s = record {
   shape = refl;
   cut = record {
-    vertex = λ v h. record { place = there v h; held = (s.each (range_of bits v) no_part (inside v h)).held v h refl };
+    wide = wide;
+    vertex = λ v h. record { place = there v h; held = (s.each (range_of width v) no_part (inside v h)).held v h refl };
     own = λ j v h held. (s.each j no_part (omega (arith, h, s.long))).own v held;
     queues = λ j h. ap (λ (p : Part). length p.queue) (of j no_part h) ∙ length-replicate levels [];
     meetings = λ j h. ap (λ (p : Part). length p.meetings) (of j no_part h) ∙ length-replicate levels [];
     tells = λ j h. ap (λ (p : Part). length p.tell.lists) (of j no_part h) ∙ length-replicate ranges [] ∙ count;
     told = (s.tells ∙ sym s.long, λ j d h. ap (λ (t : Tell). length t.lists) (s.lists j d (omega (arith, h, s.long))) ∙ length-replicate ranges [] ∙ count);
   };
-  counted = λ v h. (s.each (range_of bits v) no_part (inside v h)).same v ((s.each (range_of bits v) no_part (inside v h)).held v h refl);
+  counted = λ v h. (s.each (range_of width v) no_part (inside v h)).same v ((s.each (range_of width v) no_part (inside v h)).held v h refl);
   each = λ j d h. (s.each j d (omega (arith, h, s.long))).value ∙ ap (λ k. new_part levels k (get_or items j d).watch.first (get_or items j d).watch.counts) count;
 }
   where
     count : ranges ≡ length items
     count = omega (arith, end, within, s.long)
 
-    inside : (v : ℕ) → v < length counts → range_of bits v < i
+    inside : (v : ℕ) → v < length counts → range_of width v < i
     inside v h = omega (arith, all v h, end)
 
-    there : (v : ℕ) → v < length counts → range_of bits v < length items
+    there : (v : ℕ) → v < length counts → range_of width v < length items
     there v h = omega (arith, inside v h, s.long)
 
     of : (j : ℕ) (d : Part) → j < length items → get_or items j d ≡ new_part levels ranges (get_or items j d).watch.first (get_or items j d).watch.counts

@@ -29,23 +29,23 @@ module _ (step : Crossing) (p0 p1 p2 : List Part) (t0 t1 : List Tell) (can : Can
   same_watch : (j : ℕ) (d : Part) → j < length p0 → (get_or p2 j d).watch ≡ (get_or p0 j d).watch
   same_watch j d h = ap (λ (p : Part). p.watch) (kept j d no_tell (omega (arith, h, long1))) ∙ ap (λ (p : Part). p.watch) (parted j d h).part
 
-  pub are_told : AreTold step.bits step.is_dealt (length p2) t1
-  are_told = lists_told step.bits (length p2) step.is_dealt p1 t1 (long3 ∙ can.told ∙ sym long1) tells
+  pub are_told : AreTold step.width step.is_dealt (length p2) t1
+  are_told = lists_told step.width (length p2) step.is_dealt p1 t1 (long3 ∙ can.told ∙ sym long1) tells
       (λ i h. (parted i no_part (inside i h)).lists ∙ can.lists i no_part (inside i h) ∙ sym (long2 ∙ long1))
       (λ is i h k at. ((parted i no_part (inside i h)).dealt is).each k (omega (arith, at, long1, long2, can.lists i no_part (inside i h))))
     where
       inside : (i : ℕ) → i < length p1 → i < length p0
       inside i h = omega (arith, h, long1)
 
-  pub can_lessen : CanLessen step.bits (told_all t1) p2
+  pub can_lessen : CanLessen step.width (told_all t1) p2
   can_lessen = record {
     held = λ v d there.
         let was = can.lessen.held v d (ap (has_number v) (sym told_is) ∙ there) in
-        (omega (arith, was.0, long1, long2), subst (λ (w : Watch). HasVertex w v) (sym (same_watch (range_of step.bits v) d was.0)) was.1);
+        (omega (arith, was.0, long1, long2), subst (λ (w : Watch). HasVertex w v) (sym (same_watch (range_of step.width v) d was.0)) was.1);
     enough = λ v d there. grind (arith, nat_tests, told_is, same_watch, can.lessen.held, can.lessen.enough);
   }
 
-  pub all_parted : (p3 : List Part) → HearLess step.bits (told_all t1) p2 p3 → AllParted step p0 p3
+  pub all_parted : (p3 : List Part) → HearLess step.width (told_all t1) p2 p3 → AllParted step p0 p3
   all_parted p3 s = record {
     sized = s.sized ∙ long2 ∙ long1;
     part = λ j d h.

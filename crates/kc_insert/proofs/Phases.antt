@@ -92,7 +92,7 @@ empty_lists f [] each = refl
 empty_lists f (q ∷ qs) each = ap (λ ys. ys ++ flat_map f qs) (each 0 (omega arith)) ∙ empty_lists f qs (λ j at. each (suc j) (omega (arith, at)))
 
 -- nothing is left of a phase once all ranges forgot it
-module _ (p : Profile) (g : GraphShape) (s : RisingLevels) (r t : Cut) (order : AreInOrder p g s r) (sized : length t.parts ≡ length r.parts) (forgot : (j : ℕ) (d : Part) → j < length r.parts → get_or t.parts j d ≡ record (get_or r.parts j d) { began = []; risen = []; queue = replicate (length (get_or r.parts j d).queue) []; meetings = replicate (length (get_or r.parts j d).meetings) [] }) (bits : t.bits ≡ r.bits) (told : t.told ≡ r.told) where
+module _ (p : Profile) (g : GraphShape) (s : RisingLevels) (r t : Cut) (order : AreInOrder p g s r) (sized : length t.parts ≡ length r.parts) (forgot : (j : ℕ) (d : Part) → j < length r.parts → get_or t.parts j d ≡ record (get_or r.parts j d) { began = []; risen = []; queue = replicate (length (get_or r.parts j d).queue) []; meetings = replicate (length (get_or r.parts j d).meetings) [] }) (width : t.width ≡ r.width) (told : t.told ≡ r.told) where
   forgot_at : (j : ℕ) → j < length t.parts → part_at t j ≡ record (part_at r j) { began = []; risen = []; queue = replicate (length (part_at r j).queue) []; meetings = replicate (length (part_at r j).meetings) [] }
   forgot_at j at = forgot j no_part (omega (arith, at, sized))
 
@@ -102,8 +102,8 @@ module _ (p : Profile) (g : GraphShape) (s : RisingLevels) (r t : Cut) (order : 
   watch_same : (j : ℕ) → j < length t.parts → (part_at t j).watch ≡ (part_at r j).watch
   watch_same j at = ap (λ (q : Part). q.watch) (forgot_at j at)
 
-  range_same : (v : ℕ) → range_of t.bits v ≡ range_of r.bits v
-  range_same v = ap (λ b. range_of b v) bits
+  range_same : (v : ℕ) → range_of t.width v ≡ range_of r.width v
+  range_same v = ap (λ b. range_of b v) width
 
   pub forgot_count : (v : ℕ) → count_of t v ≡ count_of r v
   forgot_count v = grind (arith, nat_tests, range_same, watch_same, get_or_past)
@@ -117,12 +117,13 @@ module _ (p : Profile) (g : GraphShape) (s : RisingLevels) (r t : Cut) (order : 
   pub forgot_quiet : AreQuiet p g t
   forgot_quiet = record {
     shape = record {
+      wide = omega (arith, order.shape.wide, width);
       vertex = λ v h.
           let it = order.shape.vertex v h in
-          let at : range_of r.bits v < length t.parts = omega (arith, it.place, sized) in
+          let at : range_of r.width v < length t.parts = omega (arith, it.place, sized) in
           record {
             place = omega (arith, at, range_same v);
-            held = subst (λ j. HasVertex (part_at t j).watch v) (sym (range_same v)) (subst (λ w. HasVertex w v) (sym (watch_same (range_of r.bits v) at)) it.held);
+            held = subst (λ j. HasVertex (part_at t j).watch v) (sym (range_same v)) (subst (λ w. HasVertex w v) (sym (watch_same (range_of r.width v) at)) it.held);
           };
       own = λ j v at held. let it = order.shape.own j v (within j at) (subst (λ w. HasVertex w v) (watch_same j at) held) in (it.0, range_same v ∙ it.1);
       queues = λ j at. ap (λ (q : Part). length q.queue) (forgot_at j at) ∙ length-replicate (length (part_at r j).queue) [] ∙ order.shape.queues j (within j at);

@@ -39,8 +39,8 @@ pub each_count : (p : Profile) (g : GraphShape) (y : List ℕ) (r : Cut) → IsC
 each_count p g y r cut counted v h = sym (count_is g.vertices (top_level p g.vertices + 1) r cut v h) ∙ counted.values v h ∙ ap (λ k. at_least g y v k) (omega arith)
 
 -- new ranges
-pub ready_made : (p : Profile) (a : LeveledGraph) (w : Working) (bits levels : ℕ) (fresh : List ℕ) → w.levels ≡ a.levels → IsCounted a.graph a.levels 0 fresh → levels ≡ top_level p a.graph.vertices + 1 → AreNew bits fresh levels w.ranges → IsReady p a w
-ready_made p a w bits levels fresh same counted tops s = record {
+pub ready_made : (p : Profile) (a : LeveledGraph) (w : Working) (width levels : ℕ) (fresh : List ℕ) → w.levels ≡ a.levels → IsCounted a.graph a.levels 0 fresh → levels ≡ top_level p a.graph.vertices + 1 → AreNew width fresh levels w.ranges → IsReady p a w
+ready_made p a w width levels fresh same counted tops s = record {
   levels = same;
   counted = subst (IsCounted a.graph a.levels 0) (sym counts) counted;
   quiet = record {
@@ -109,10 +109,10 @@ ready_followed p a b old new es moves fresh mid r long wide is moved counted lev
 pub ready_taken : (p : Profile) (b : LeveledGraph) (s : RisingLevels) (r : Cut) (new : Working) → AreInOrder p b.graph s r → AreCounted b.graph b.levels (count_of r) → new.levels ≡ b.levels → Forgot r new.ranges → IsReady p b new
 ready_taken p b s r new order counted same forgot = record {
   levels = same;
-  counted = listed_counts p b.graph b.levels new.ranges quiet.shape (λ v h. forgot_count p b.graph s r new.ranges order forgot.sized forgot.each forgot.bits forgot.told v ∙ counted v h);
+  counted = listed_counts p b.graph b.levels new.ranges quiet.shape (λ v h. forgot_count p b.graph s r new.ranges order forgot.sized forgot.each forgot.width forgot.told v ∙ counted v h);
   quiet = quiet;
-  none_waiting = forgot_waits p b.graph s r new.ranges order forgot.sized forgot.each forgot.bits forgot.told;
+  none_waiting = forgot_waits p b.graph s r new.ranges order forgot.sized forgot.each forgot.width forgot.told;
 }
   where
     quiet : AreQuiet p b.graph new.ranges
-    quiet = forgot_quiet p b.graph s r new.ranges order forgot.sized forgot.each forgot.bits forgot.told
+    quiet = forgot_quiet p b.graph s r new.ranges order forgot.sized forgot.each forgot.width forgot.told

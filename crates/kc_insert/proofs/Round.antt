@@ -16,7 +16,7 @@ use Rattle.kc_insert.proofs.RoundRising.{AreKeeping, level_lifted}
 use Rattle.kc_insert.proofs.RoundWaits.{waiting}
 use Rattle.kc_insert.proofs.Stepping.{paid_on, stepped}
 
-module _ (p : Profile) (g : GraphShape) (x : List ℕ) (r : Passage) (k : AreKeeping p g x r.bits r.most r.level_count r.levels.old r.parts.old r.old_told) (h : HasPassed g r) (graph : IsGraph g) (small : r.levels.old.level < 65534) (few : r.level_count ≤ 65535) (tops : top_level p g.vertices < 65535) where
+module _ (p : Profile) (g : GraphShape) (x : List ℕ) (r : Passage) (k : AreKeeping p g x r.width r.most r.level_count r.levels.old r.parts.old r.old_told) (h : HasPassed g r) (graph : IsGraph g) (small : r.levels.old.level < 65534) (few : r.level_count ≤ 65535) (tops : top_level p g.vertices < 65535) where
   pub has_stepped : HasStepped g x (before_step r) (after_step r) r.most r.above
   has_stepped = record {
     level = level_lifted p g x r k h.before;

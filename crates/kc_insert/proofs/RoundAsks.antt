@@ -30,14 +30,14 @@ use Rattle.kc_insert.proofs.RoundRising.{AreKeeping, began_at, began_in, cut_of,
 use Rattle.kc_insert.proofs.Stepping.{count_at_level, waits_here}
 use Rattle.kc_insert.proofs.Tests.{and_first, and_on}
 
-module _ (p : Profile) (g : GraphShape) (x : List ℕ) (bits most levels : ℕ) (s0 : RisingLevels) (p0 : List Part) (t0 : List Tell) (k : AreKeeping p g x bits most levels s0 p0 t0) where
+module _ (p : Profile) (g : GraphShape) (x : List ℕ) (width most levels : ℕ) (s0 : RisingLevels) (p0 : List Part) (t0 : List Tell) (k : AreKeeping p g x width most levels s0 p0 t0) where
   -- the vertices that wait are vertices
-  pub ask_movers : (p1 : List Part) (t1 : List Tell) → TookWaiting s0.level p0 p1 → (v : ℕ) → has_number v (waits_in s0.level p0) ≡ true → IsIn (cut_of bits p1 t1) v
+  pub ask_movers : (p1 : List Part) (t1 : List Tell) → TookWaiting s0.level p0 p1 → (v : ℕ) → has_number v (waits_in s0.level p0) ≡ true → IsIn (cut_of width p1 t1) v
   ask_movers p1 t1 took v there =
-      let it = vertex_in p g x bits most levels s0 p0 t0 k v (waits_here p g x (sweeping_of s0 (cut_of bits p0 t0)) k.sweeping s0.level v (omega arith) there).0 in
+      let it = vertex_in p g x width most levels s0 p0 t0 k v (waits_here p g x (sweeping_of s0 (cut_of width p0 t0)) k.sweeping s0.level v (omega arith) there).0 in
       record {
         place = omega (arith, it.0, took.sized);
-        held = subst (λ (q : Part). HasVertex q.watch v) (sym (took.each (range_of bits v) no_part it.0)) it.1;
+        held = subst (λ (q : Part). HasVertex q.watch v) (sym (took.each (range_of width v) no_part it.0)) it.1;
       }
 
   -- the watch lists have vertices of their own ranges
@@ -71,36 +71,36 @@ module _ (p : Profile) (g : GraphShape) (x : List ℕ) (bits most levels : ℕ) 
     was_rising v on = and_first (rises s0 v) (not (has_number v (stay_in p2))) (sym (stopped.rises_on v) ∙ on)
 
     here : (v : ℕ) → rises s0 v ≡ true → get_or (seen s0) v 0 ≡ s0.level
-    here v up = (k.sweeping.rise.came v (listed p g x bits most levels s0 p0 t0 k v ∙ up)).1
+    here v up = (k.sweeping.rise.came v (listed p g x width most levels s0 p0 t0 k v ∙ up)).1
 
     -- a vertex that goes on counts each neighbour that stays
-    counts_stay : (v : ℕ) → v < g.vertices → rises s1 v ≡ true → count_by (λ u. has_number u (stay_in p2)) (neighbours_of v g.edges) ≤ count_in bits p0 v
+    counts_stay : (v : ℕ) → v < g.vertices → rises s1 v ≡ true → count_by (λ u. has_number u (stay_in p2)) (neighbours_of v g.edges) ≤ count_in width p0 v
     unfolding at_least
     counts_stay v h on = omega (
       arith,
       count_by-mono (λ u. has_number u (stay_in p2)) (λ u. leb s0.level (get_or (seen s0) u 0)) (neighbours_of v g.edges) (λ u there. le-leb s0.level (get_or (seen s0) u 0) (omega (arith, here u (stay_vertex u there).0))),
-      count_at_level p g x (sweeping_of s0 (cut_of bits p0 t0)) k.sweeping v s0.level h (here v (was_rising v on)),
+      count_at_level p g x (sweeping_of s0 (cut_of width p0 t0)) k.sweeping v s0.level h (here v (was_rising v on)),
     )
 
     lists_are : (i : ℕ) → i < length p0 → length (at_place p2 i).tell.lists ≡ length p0
     lists_are i at = ap (λ (q : Part). length q.tell.lists) (stopped.each i no_part (omega (arith, at, took.sized)) ∙ ap (λ (q : Part). record q { watch = record q.watch { doubtful = [] }; stay = (at_place p2 i).stay }) (took.each i no_part at)) ∙ k.shape.tells i at
 
-    pub ask_part : (tells : List Tell) (dealt : Bool) → IsGraph g → g.vertices ≤ 2 ^ 24 → length tells ≡ length p0 → ((i : ℕ) (e : Tell) → i < length p0 → length (get_or tells i e).lists ≡ length p0) → CanPartAll (step_at g s1 bits s0.level dealt) p2 tells
+    pub ask_part : (tells : List Tell) (dealt : Bool) → IsGraph g → g.vertices ≤ 2 ^ 24 → length tells ≡ length p0 → ((i : ℕ) (e : Tell) → i < length p0 → length (get_or tells i e).lists ≡ length p0) → CanPartAll (step_at g s1 width s0.level dealt) p2 tells
     ask_part tells dealt graph few sized heard = record {
       told = sized ∙ sym long;
       heard = λ i e at. heard i e (omega (arith, at, long)) ∙ sym long;
-      each = λ i d at. subst (CanPart (step_at g s1 bits s0.level dealt)) (sym (get_or_default p2 i d no_part at)) (one i (omega (arith, at, long)));
+      each = λ i d at. subst (CanPart (step_at g s1 width s0.level dealt)) (sym (get_or_default p2 i d no_part at)) (one i (omega (arith, at, long)));
       lists = λ i d at. ap (λ (q : Part). length q.tell.lists) (get_or_default p2 i d no_part at) ∙ lists_are i (omega (arith, at, long)) ∙ sym long;
       lessen = record {
         held = λ v d there.
-            let it = vertex_in p g x bits most levels s0 p0 t0 k v (inside v there) in
-            (omega (arith, it.0, long), subst (λ (q : Part). HasVertex q.watch v) (sym (get_or_default p2 (range_of bits v) d no_part (omega (arith, it.0, long)))) (held_on v (range_of bits v) it.0 it.1));
+            let it = vertex_in p g x width most levels s0 p0 t0 k v (inside v there) in
+            (omega (arith, it.0, long), subst (λ (q : Part). HasVertex q.watch v) (sym (get_or_default p2 (range_of width v) d no_part (omega (arith, it.0, long)))) (held_on v (range_of width v) it.0 it.1));
         enough = λ v d there.
-            let it = vertex_in p g x bits most levels s0 p0 t0 k v (inside v there) in
+            let it = vertex_in p g x width most levels s0 p0 t0 k v (inside v there) in
             omega (
               arith,
-              ap (λ (q : Part). count_at q.watch v) (get_or_default p2 (range_of bits v) d no_part (omega (arith, it.0, long))),
-              ap (λ (w : Watch). count_at w v) (watch_is (range_of bits v) it.0),
+              ap (λ (q : Part). count_at q.watch v) (get_or_default p2 (range_of width v) d no_part (omega (arith, it.0, long))),
+              ap (λ (w : Watch). count_at w v) (watch_is (range_of width v) it.0),
               times_rows g graph (rises s1) v (stay_in p2) stopped.distinct,
               less v (inside v there),
             );
@@ -110,16 +110,16 @@ module _ (p : Profile) (g : GraphShape) (x : List ℕ) (bits most levels : ℕ) 
         steps_are : (i : ℕ) → i < length p0 → (at_place p2 i).steps ≡ 0
         steps_are i at = ap (λ (q : Part). q.steps) (stopped.each i no_part (omega (arith, at, took.sized)) ∙ ap (λ (q : Part). record q { watch = record q.watch { doubtful = [] }; stay = (at_place p2 i).stay }) (took.each i no_part at)) ∙ k.rest.steps i at
 
-        one : (i : ℕ) → i < length p0 → CanPart (step_at g s1 bits s0.level dealt) (at_place p2 i)
+        one : (i : ℕ) → i < length p0 → CanPart (step_at g s1 width s0.level dealt) (at_place p2 i)
         one i at = record {
           vertices = λ v there. (stay_is i v at there).1;
           few = omega (arith, few, few_distinct g.vertices (at_place p2 i).stay (distinct_part (λ (q : Part). q.stay) p2 i (omega (arith, at, long)) stopped.distinct) (λ v there. (stay_is i v at there).1));
           steps = omega (arith, steps_are i at);
-          ranges = λ v h. omega (arith, (vertex_in p g x bits most levels s0 p0 t0 k v h).0, lists_are i at);
+          ranges = λ v h. omega (arith, (vertex_in p g x width most levels s0 p0 t0 k v h).0, lists_are i at);
         }
 
-        inside : (v : ℕ) → has_number v (flat_map (rising_near (step_at g s1 bits s0.level dealt)) (stay_in p2)) ≡ true → v < g.vertices
-        inside = inside_rows (λ v. v < g.vertices) (rising_near (step_at g s1 bits s0.level dealt)) (stay_in p2) (λ s v at near. near_inside g s v (rises s1) graph near)
+        inside : (v : ℕ) → has_number v (flat_map (rising_near (step_at g s1 width s0.level dealt)) (stay_in p2)) ≡ true → v < g.vertices
+        inside = inside_rows (λ v. v < g.vertices) (rising_near (step_at g s1 width s0.level dealt)) (stay_in p2) (λ s v at near. near_inside g s v (rises s1) graph near)
 
         held_on : (v j : ℕ) → j < length p0 → HasVertex (at_place p0 j).watch v → HasVertex (at_place p2 j).watch v
         held_on v j at was = record {
@@ -127,16 +127,16 @@ module _ (p : Profile) (g : GraphShape) (x : List ℕ) (bits most levels : ℕ) 
           below = omega (arith, was.below, ap (λ (w : Watch). w.first) (watch_is j at), ap (λ (w : Watch). length w.counts) (watch_is j at));
         }
 
-        less : (v : ℕ) → v < g.vertices → cond (rises s1 v) (count_by (λ u. has_number u (stay_in p2)) (neighbours_of v g.edges)) 0 ≤ count_in bits p0 v
+        less : (v : ℕ) → v < g.vertices → cond (rises s1 v) (count_by (λ u. has_number u (stay_in p2)) (neighbours_of v g.edges)) 0 ≤ count_in width p0 v
         less v h = grind (arith, nat_tests, counts_stay)
 
     -- the vertices that begin are on the level still
-    pub ask_lift : (s2 : RisingLevels) (p3 : List Part) (starting : List ℕ) → length p3 ≡ length p0 → ((j : ℕ) → j < length p0 → (at_place p3 j).begun ≡ []) → s2.level ≡ s0.level + 1 → ((risers : List ℕ) → ((v : ℕ) → rises s1 v ≡ has_number v risers) → seen s2 ≡ all_at (seen s1) risers (s0.level + 1)) → starting ≡ filter (is_over (count_in bits p1) most) (waits_in s0.level p0) → CanLiftOff s0.level s2 starting bits p3
+    pub ask_lift : (s2 : RisingLevels) (p3 : List Part) (starting : List ℕ) → length p3 ≡ length p0 → ((j : ℕ) → j < length p0 → (at_place p3 j).begun ≡ []) → s2.level ≡ s0.level + 1 → ((risers : List ℕ) → ((v : ℕ) → rises s1 v ≡ has_number v risers) → seen s2 ≡ all_at (seen s1) risers (s0.level + 1)) → starting ≡ filter (is_over (count_in width p1) most) (waits_in s0.level p0) → CanLiftOff s0.level s2 starting width p3
     ask_lift s2 p3 starting sized none on goes is = record {
       at = on;
       below = λ v there. omega (arith, (waits v there).0, k.sweeping.placed.raising.sized, ap (λ (y : List ℕ). length y) moved, length-all_at (seen s0) on_list (s0.level + 1));
       here = λ v there. ap (λ y. get_or y v 0) moved ∙ all_at_other (seen s0) on_list (s0.level + 1) v (sym (on_listed v) ∙ still v (waits v there).3) ∙ (waits v there).2;
-      place = λ v there. omega (arith, (vertex_in p g x bits most levels s0 p0 t0 k v (waits v there).0).0, sized);
+      place = λ v there. omega (arith, (vertex_in p g x width most levels s0 p0 t0 k v (waits v there).0).0, sized);
       none = λ j d at. ap (λ (q : Part). q.begun) (get_or_default p3 j d no_part at) ∙ none j (omega (arith, at, sized));
     }
       where
@@ -145,7 +145,7 @@ module _ (p : Profile) (g : GraphShape) (x : List ℕ) (bits most levels : ℕ) 
 
         on_listed : (v : ℕ) → rises s1 v ≡ has_number v on_list
         on_listed v = sym (has_number-filter v (rises s1) (began_in p0) ∙ elim (cases_Bool (rises s1 v)) [
-          | inl up ↦ and_on (has_number v (began_in p0)) (rises s1 v) (began_at p g x bits most levels s0 p0 t0 k v (was_rising v up)).1
+          | inl up ↦ and_on (has_number v (began_in p0)) (rises s1 v) (began_at p g x width most levels s0 p0 t0 k v (was_rising v up)).1
           | inr off ↦ and_right (has_number v (began_in p0)) (rises s1 v) off ∙ sym off
         ])
 
@@ -157,5 +157,5 @@ module _ (p : Profile) (g : GraphShape) (x : List ℕ) (bits most levels : ℕ) 
 
         waits : (v : ℕ) → has_number v starting ≡ true → (v < g.vertices) × (get_or x v 0 ≡ s0.level) × (get_or (seen s0) v 0 ≡ s0.level) × (rises s0 v ≡ false)
         waits v there =
-            let it = waits_here p g x (sweeping_of s0 (cut_of bits p0 t0)) k.sweeping s0.level v (omega arith) (and_first (has_number v (waits_in s0.level p0)) (is_over (count_in bits p1) most v) (sym (has_number-filter v (is_over (count_in bits p1) most) (waits_in s0.level p0)) ∙ ap (has_number v) (sym is) ∙ there)) in
-            (it.0, it.1, it.2, sym (listed p g x bits most levels s0 p0 t0 k v) ∙ it.3)
+            let it = waits_here p g x (sweeping_of s0 (cut_of width p0 t0)) k.sweeping s0.level v (omega arith) (and_first (has_number v (waits_in s0.level p0)) (is_over (count_in width p1) most v) (sym (has_number-filter v (is_over (count_in width p1) most) (waits_in s0.level p0)) ∙ ap (has_number v) (sym is) ∙ there)) in
+            (it.0, it.1, it.2, sym (listed p g x width most levels s0 p0 t0 k v) ∙ it.3)

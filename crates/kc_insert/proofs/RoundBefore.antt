@@ -22,42 +22,42 @@ use Rattle.kc_insert.proofs.RoundRising.{AreKeeping, begun_fresh, begun_here, le
 use Rattle.kc_insert.proofs.RoundTold.{less_told, met_on, second_step}
 use Rattle.kc_insert.proofs.Stepping.{count_at_level, off_level, rises_rose}
 
-module _ (p : Profile) (g : GraphShape) (x : List ℕ) (r : Passage) (k : AreKeeping p g x r.bits r.most r.level_count r.levels.old r.parts.old r.old_told) (h : HasLifted g r) (graph : IsGraph g) (small : r.levels.old.level < 65534) where
+module _ (p : Profile) (g : GraphShape) (x : List ℕ) (r : Passage) (k : AreKeeping p g x r.width r.most r.level_count r.levels.old r.parts.old r.old_told) (h : HasLifted g r) (graph : IsGraph g) (small : r.levels.old.level < 65534) where
   abbrev pub told : ℕ → ℕ
   told v = times v (rise_told (second_step p g x r k h graph small) r.parts.lifted)
 
   abbrev pub left : ℕ → ℕ
-  left v = times v (left_at (second_step p g x r k h graph small) (get_or (place_of r.bits r.parts.lifted v).meetings r.levels.old.level []))
+  left v = times v (left_at (second_step p g x r k h graph small) (get_or (place_of r.width r.parts.lifted v).meetings r.levels.old.level []))
 
   abbrev pub near_v : ℕ → List ℕ
   near_v v = neighbours_of v g.edges
 
   -- the range of v
   abbrev pub home : ℕ → ℕ
-  home v = range_of r.bits v
+  home v = range_of r.width v
 
   module _ (v : ℕ) (at : v < g.vertices) where
     pub inside : home v < length r.parts.old
-    inside = (vertex_in p g x r.bits r.most r.level_count r.levels.old r.parts.old r.old_told k v at).0
+    inside = (vertex_in p g x r.width r.most r.level_count r.levels.old r.parts.old r.old_told k v at).0
 
-    pub held : HasVertex (place_of r.bits r.parts.old v).watch v
-    held = (vertex_in p g x r.bits r.most r.level_count r.levels.old r.parts.old r.old_told k v at).1
+    pub held : HasVertex (place_of r.width r.parts.old v).watch v
+    held = (vertex_in p g x r.width r.most r.level_count r.levels.old r.parts.old r.old_told k v at).1
 
-    pub count_stopped : count_in r.bits r.parts.stopped v ≡ count_in r.bits r.parts.old v
+    pub count_stopped : count_in r.width r.parts.stopped v ≡ count_in r.width r.parts.old v
     count_stopped = ap (λ (w : Watch). count_at w v) (watch_stopped g r h (home v) inside)
 
     -- after the vertices that stay were told of
-    pub count_lifted : count_in r.bits r.parts.lifted v + cond (rises r.levels.stopped v) (count_by (λ u. has_number u (stay_in r.parts.stopped)) (near_v v)) 0 ≡ count_in r.bits r.parts.old v
+    pub count_lifted : count_in r.width r.parts.lifted v + cond (rises r.levels.stopped v) (count_by (λ u. has_number u (stay_in r.parts.stopped)) (near_v v)) 0 ≡ count_in r.width r.parts.old v
     count_lifted =
         ap (λ n. n + cond (rises r.levels.stopped v) (count_by (λ u. has_number u (stay_in r.parts.stopped)) (near_v v)) 0) (ap (λ (w : Watch). count_at w v) (watch_lifted g r h (home v) inside))
-        ∙ ap (λ n. count_in r.bits r.parts.parted v + n) (sym (less_told p g x r k h graph small v))
+        ∙ ap (λ n. count_in r.width r.parts.parted v + n) (sym (less_told p g x r k h graph small v))
         ∙ h.parted.less v no_part (omega (arith, inside, long_stopped g r h)) (held_stopped g r h (home v) inside v held)
         ∙ count_stopped
 
-    pub begun_home : has_number v (place_of r.bits r.parts.lifted v).begun ≡ has_number v (begun_in r.parts.lifted)
+    pub begun_home : has_number v (place_of r.width r.parts.lifted v).begun ≡ has_number v (begun_in r.parts.lifted)
     begun_home = elim (cases_Bool (has_number v (begun_in r.parts.lifted))) [
       | inl there ↦ grind (arith, nat_tests, joined_in, at_place, h.lifted.own, h.lifted.sized, there)
-      | inr none ↦ elim (cases_Bool (has_number v (place_of r.bits r.parts.lifted v).begun)) [
+      | inr none ↦ elim (cases_Bool (has_number v (place_of r.width r.parts.lifted v).begun)) [
         | inr gone ↦ gone ∙ sym none
         | inl here ↦ absurd (true≢false (sym (joined_of (λ (q : Part). q.begun) r.parts.lifted v (home v) (omega (arith, inside, long_lifted g r h)) here) ∙ none))
       ]
@@ -70,7 +70,7 @@ module _ (p : Profile) (g : GraphShape) (x : List ℕ) (r : Passage) (k : AreKee
   new_at u = get_or (seen r.levels.lifted) u 0
 
   pub listed_old : (v : ℕ) → has_number v (before_step r).rising ≡ rises r.levels.old v
-  listed_old v = listed p g x r.bits r.most r.level_count r.levels.old r.parts.old r.old_told k v
+  listed_old v = listed p g x r.width r.most r.level_count r.levels.old r.parts.old r.old_told k v
 
   -- the vertices that stay are on the level, where they came to in the sweep
   pub stay_came : (u : ℕ) → has_number u (stay_in r.parts.stopped) ≡ true → (old_at u ≡ r.levels.old.level) × (get_or x u 0 < r.levels.old.level) × (rises r.levels.old u ≡ true)
@@ -108,7 +108,7 @@ module _ (p : Profile) (g : GraphShape) (x : List ℕ) (r : Passage) (k : AreKee
           ]
     ]
       where
-        out : (u : ℕ) → r.most < count_in r.bits r.parts.old u → has_number u (stay_in r.parts.stopped) ≡ false
+        out : (u : ℕ) → r.most < count_in r.width r.parts.old u → has_number u (stay_in r.parts.stopped) ≡ false
         out u many = elim (cases_Bool (has_number u (stay_in r.parts.stopped))) [ inr none ↦ none | inl there ↦ absurd (omega (arith, many, (stay_few p g x r k h u there).1)) ]
 
         off_level_ : (u : ℕ) → new_at u ≢ r.levels.old.level → met u ≡ false
@@ -155,7 +155,7 @@ module _ (p : Profile) (g : GraphShape) (x : List ℕ) (r : Passage) (k : AreKee
       | begins off new ↦
           let it = begun_here p g x r k h u new in
           sum_third _ _ _ _ (le-leb (r.levels.old.level + 1) (new_at u) (omega (arith, seen_begun p g x r k h u new))) (lt-leb (r.levels.old.level + 1) (old_at u) (omega (arith, it.2))) (fresh u new) new
-      | stays off none ↦ same_bits u (seen_same p g x r k h u off none) (rests u off none) none
+      | stays off none ↦ same_width u (seen_same p g x r k h u off none) (rests u off none) none
     ]
       where
         comes : (u : ℕ) → has_number u (near_v v) ≡ true → rises r.levels.stopped u ≡ true → come u ≡ true
@@ -173,8 +173,8 @@ module _ (p : Profile) (g : GraphShape) (x : List ℕ) (r : Passage) (k : AreKee
         rests : (u : ℕ) → rises r.levels.stopped u ≡ false → has_number u (begun_in r.parts.lifted) ≡ false → come u ≡ false
         rests u off none = and_right (has_edge (u, v) (met_on p g x r k h graph small (r.levels.old.level + 1))) (rises r.levels.lifted u) (rises_lifted p g x r k h u ∙ or_from (rises r.levels.stopped u) (has_number u (begun_in r.parts.lifted)) off none)
 
-        same_bits : (u : ℕ) → new_at u ≡ old_at u → come u ≡ false → has_number u (begun_in r.parts.lifted) ≡ false → bit (leb (r.levels.old.level + 1) (new_at u)) ≡ bit (leb (r.levels.old.level + 1) (old_at u)) + (bit (come u) + bit (has_number u (begun_in r.parts.lifted)))
-        same_bits u same e f = grind (arith, nat_tests, sum_first, le-leb, sum_none, lt-leb)
+        same_width : (u : ℕ) → new_at u ≡ old_at u → come u ≡ false → has_number u (begun_in r.parts.lifted) ≡ false → bit (leb (r.levels.old.level + 1) (new_at u)) ≡ bit (leb (r.levels.old.level + 1) (old_at u)) + (bit (come u) + bit (has_number u (begun_in r.parts.lifted)))
+        same_width u same e f = grind (arith, nat_tests, sum_first, le-leb, sum_none, lt-leb)
 
     pub next_parts : count_by (λ u. leb (r.levels.old.level + 1) (new_at u)) (near_v v) ≡ count_by (λ u. leb (r.levels.old.level + 1) (old_at u)) (near_v v) + (count_by come (near_v v) + count_by (λ u. has_number u (begun_in r.parts.lifted)) (near_v v))
     next_parts = count_parts (λ u. leb (r.levels.old.level + 1) (new_at u)) (λ u. leb (r.levels.old.level + 1) (old_at u)) come (λ u. has_number u (begun_in r.parts.lifted)) (near_v v) more_at
@@ -190,6 +190,6 @@ module _ (p : Profile) (g : GraphShape) (x : List ℕ) (r : Passage) (k : AreKee
       agree : (a b : ℕ) → a ≡ r.levels.old.level → b ≡ r.levels.old.level + 1 → leb j a ≡ leb j b
       agree a b e f = grind (arith, nat_tests, lt-leb, le-leb)
 
-  pub old_count : (v j : ℕ) → v < g.vertices → old_at v ≡ j → count_in r.bits r.parts.old v ≡ count_by (λ u. leb j (old_at u)) (near_v v)
+  pub old_count : (v j : ℕ) → v < g.vertices → old_at v ≡ j → count_in r.width r.parts.old v ≡ count_by (λ u. leb j (old_at u)) (near_v v)
   unfolding at_least
   old_count v j at on = count_at_level p g x (before_step r) k.sweeping v j at on

@@ -51,7 +51,7 @@ steps_sum g (q ∷ qs) (p ∷ ps) (r ∷ rs) long too each = omega (
   degrees-append g r.begun (flat_map (λ (q : Part). q.begun) rs),
 )
 
-module _ (p : Profile) (g : GraphShape) (x : List ℕ) (r : Passage) (k : AreKeeping p g x r.bits r.most r.level_count r.levels.old r.parts.old r.old_told) (h : HasPassed g r) (graph : IsGraph g) (small : r.levels.old.level < 65534) (few : r.level_count ≤ 65535) (tops : top_level p g.vertices < 65535) where
+module _ (p : Profile) (g : GraphShape) (x : List ℕ) (r : Passage) (k : AreKeeping p g x r.width r.most r.level_count r.levels.old r.parts.old r.old_told) (h : HasPassed g r) (graph : IsGraph g) (small : r.levels.old.level < 65534) (few : r.level_count ≤ 65535) (tops : top_level p g.vertices < 65535) where
   -- the steps of the ranges are those of passes over the neighbours of the vertices that stay and of those that begin
   pub steps_are : sum_by (λ (q : Part). q.steps) r.parts.risen ≡ degrees g (stay_in r.parts.stopped) + degrees g (begun_in r.parts.lifted)
   steps_are = steps_sum g r.parts.risen r.parts.stopped r.parts.lifted (long_risen g r h ∙ sym (long_lifted g r h.before)) (long_stopped g r h.before ∙ sym (long_lifted g r h.before)) (λ j at. let within : j < length r.parts.old = omega (arith, at, long_lifted g r h.before) in omega (arith, steps_risen g r h j within, k.rest.steps j within))
@@ -80,13 +80,13 @@ module _ (p : Profile) (g : GraphShape) (x : List ℕ) (r : Passage) (k : AreKee
     same_list f each = joined_same f f p6 r.parts.risen long6 (λ j at. each j (omega (arith, at, long_risen g r h)))
 
     -- the sweep is the same
-    pub counted_same : IsSame (after_step r) (sweeping_of r.levels.lifted (cut_of r.bits p6 told6))
+    pub counted_same : IsSame (after_step r) (sweeping_of r.levels.lifted (cut_of r.width p6 told6))
     counted_same = record {
       level = refl;
       levels = refl;
-      count = λ v. elim (cases_lt (range_of r.bits v) (length r.parts.old)) [
-        | inl at ↦ ap (λ (w : Watch). count_at w v) (watch6 (range_of r.bits v) at)
-        | inr past ↦ ap (λ (q : Part). count_at q.watch v) (get_or_past p6 (range_of r.bits v) no_part (omega (arith, past, long60)) ∙ sym (get_or_past r.parts.risen (range_of r.bits v) no_part (omega (arith, past, long_risen g r h))))
+      count = λ v. elim (cases_lt (range_of r.width v) (length r.parts.old)) [
+        | inl at ↦ ap (λ (w : Watch). count_at w v) (watch6 (range_of r.width v) at)
+        | inr past ↦ ap (λ (q : Part). count_at q.watch v) (get_or_past p6 (range_of r.width v) no_part (omega (arith, past, long60)) ∙ sym (get_or_past r.parts.risen (range_of r.width v) no_part (omega (arith, past, long_risen g r h))))
       ];
       lists = (
         ap (filter (rises r.levels.lifted)) (same_list (λ (q : Part). q.began) (λ j at. ap (λ (q : Part). q.began) (taken_at j at))),
@@ -101,11 +101,12 @@ module _ (p : Profile) (g : GraphShape) (x : List ℕ) (r : Passage) (k : AreKee
     begun_held j v at there =
         let own = h.before.lifted.own j v no_part (omega (arith, at, long_lifted g r h.before, h.before.lifted.sized)) there in
         let it = begun_here p g x r k h.before v (joined_of (λ (q : Part). q.begun) r.parts.lifted v j (omega (arith, at, long_lifted g r h.before)) there) in
-        subst (λ i. HasVertex (at_place r.parts.old i).watch v) own (vertex_in p g x r.bits r.most r.level_count r.levels.old r.parts.old r.old_told k v it.0).1
+        subst (λ i. HasVertex (at_place r.parts.old i).watch v) own (vertex_in p g x r.width r.most r.level_count r.levels.old r.parts.old r.old_told k v it.0).1
 
-    pub cut_on : IsCut g.vertices r.level_count (cut_of r.bits p6 told6)
+    pub cut_on : IsCut g.vertices r.level_count (cut_of r.width p6 told6)
     cut_on = record {
-      vertex = λ v at. let it = vertex_in p g x r.bits r.most r.level_count r.levels.old r.parts.old r.old_told k v at in record { place = omega (arith, it.0, long60); held = held6 (range_of r.bits v) v it.0 it.1 };
+      wide = k.shape.wide;
+      vertex = λ v at. let it = vertex_in p g x r.width r.most r.level_count r.levels.old r.parts.old r.old_told k v at in record { place = omega (arith, it.0, long60); held = held6 (range_of r.width v) v it.0 it.1 };
       own = λ j v at is. k.shape.own j v (within j at) (held_back6 j v (within j at) is);
       queues = λ j at. ap (λ (q : Part). length q.queue) (taken_at j (within j at)) ∙ (met_at g r h j (within j at)).levels ∙ ap (λ (q : List (List ℕ)). length q) (queue_mid g r h j (within j at)) ∙ length-set (at_place r.parts.old j).queue r.levels.old.level [] ∙ k.shape.queues j (within j at);
       meetings = λ j at. ap (λ (q : Part). length q.meetings) (taken_at j (within j at)) ∙ ap (λ (m : List (List Pair)). length m) (meetings_risen g r h j (within j at)) ∙ (rose_at g r h j (within j at)).risen.meetings.sized ∙ length-set (at_place r.parts.lifted j).meetings r.levels.old.level [] ∙ ap (λ (m : List (List Pair)). length m) (meetings_lifted g r h.before j (within j at)) ∙ k.shape.meetings j (within j at);
@@ -123,7 +124,7 @@ module _ (p : Profile) (g : GraphShape) (x : List ℕ) (r : Passage) (k : AreKee
     doubtful6 j at = ap (λ (w : Watch). w.doubtful) (watch6 j at)
 
     -- a vertex that rises and comes to count few is on the watch list
-    many_before : (v : ℕ) → rises r.levels.lifted v ≡ true → (v < g.vertices) × (r.most < count_in r.bits r.parts.old v)
+    many_before : (v : ℕ) → rises r.levels.lifted v ≡ true → (v < g.vertices) × (r.most < count_in r.width r.parts.old v)
     many_before v up = elim (move_of p g x r k h.before v) [
       | goes on none ↦ let it = left_here p g x r k h.before v on in (it.0, it.4)
       | begins off new ↦ let it = begun_here p g x r k h.before v new in (it.0, it.4)
@@ -132,7 +133,7 @@ module _ (p : Profile) (g : GraphShape) (x : List ℕ) (r : Passage) (k : AreKee
 
     module _ (v : ℕ) (up : rises r.levels.lifted v ≡ true) where
       abbrev j : ℕ
-      j = range_of r.bits v
+      j = range_of r.width v
 
       in_graph : v < g.vertices
       in_graph = (many_before v up).0
@@ -141,10 +142,10 @@ module _ (p : Profile) (g : GraphShape) (x : List ℕ) (r : Passage) (k : AreKee
       at = inside p g x r k h.before graph small v in_graph
 
       from : (at_place r.parts.old j).watch.first ≤ v
-      from = (vertex_in p g x r.bits r.most r.level_count r.levels.old r.parts.old r.old_told k v in_graph).1.from
+      from = (vertex_in p g x r.width r.most r.level_count r.levels.old r.parts.old r.old_told k v in_graph).1.from
 
       -- it counted many when the vertices that stay were told of, and few afterwards
-      few_then : count_in r.bits r.parts.lifted v ≤ r.most → has_number v (at_place r.parts.parted j).watch.doubtful ≡ true
+      few_then : count_in r.width r.parts.lifted v ≤ r.most → has_number v (at_place r.parts.parted j).watch.doubtful ≡ true
       few_then low = elim ((watched_parted g r h.before j at).fell v (omega (arith, from, first_stopped g r h.before j at)) (omega (arith, low, ap (λ (w : Watch). count_at w v) (watch_lifted g r h.before j at), most_stopped g r h.before j at, k.limit j at))) [
         | inr there ↦ there
         | inl was ↦ absurd (omega (arith, was, most_stopped g r h.before j at, k.limit j at, count_stopped p g x r k h.before graph small v in_graph, (many_before v up).1))
@@ -156,7 +157,7 @@ module _ (p : Profile) (g : GraphShape) (x : List ℕ) (r : Passage) (k : AreKee
         | inl was ↦ (watched_mid g r h j at).still v (ap (λ (w : Watch). has_number v w.doubtful) (watch_lifted g r h.before j at) ∙ few_then (omega (arith, was, most_lifted g r h.before j at, k.limit j at)))
       ]
 
-      few_on : count_in r.bits p6 v ≤ (place_of r.bits p6 v).watch.most → has_number v (place_of r.bits p6 v).watch.doubtful ≡ true
+      few_on : count_in r.width p6 v ≤ (place_of r.width p6 v).watch.most → has_number v (place_of r.width p6 v).watch.doubtful ≡ true
       few_on low =
           ap (has_number v) (doubtful6 j at) ∙ ap (λ (w : Watch). has_number v w.doubtful) (watch_risen g r h j at)
           ∙ few_mid (omega (
@@ -169,16 +170,16 @@ module _ (p : Profile) (g : GraphShape) (x : List ℕ) (r : Passage) (k : AreKee
             count_risen p g x r k h graph small v in_graph,
           ))
 
-    pub kept_on : AreKept r.levels.lifted (cut_of r.bits p6 told6)
+    pub kept_on : AreKept r.levels.lifted (cut_of r.width p6 told6)
     kept_on = record {
       began = λ v up. elim (move_of p g x r k h.before v) [
         | goes on none ↦
-            let was = began_at p g x r.bits r.most r.level_count r.levels.old r.parts.old r.old_told k v (left_here p g x r k h.before v on).3 in
-            ap (has_number v) (began6 (range_of r.bits v) was.0) ∙ has_number-append v (place_of r.bits r.parts.old v).began (place_of r.bits r.parts.lifted v).begun ∙ or_left (has_number v (place_of r.bits r.parts.old v).began) (has_number v (place_of r.bits r.parts.lifted v).begun) (k.kept.began v (left_here p g x r k h.before v on).3)
+            let was = began_at p g x r.width r.most r.level_count r.levels.old r.parts.old r.old_told k v (left_here p g x r k h.before v on).3 in
+            ap (has_number v) (began6 (range_of r.width v) was.0) ∙ has_number-append v (place_of r.width r.parts.old v).began (place_of r.width r.parts.lifted v).begun ∙ or_left (has_number v (place_of r.width r.parts.old v).began) (has_number v (place_of r.width r.parts.lifted v).begun) (k.kept.began v (left_here p g x r k h.before v on).3)
         | begins off new ↦
             let it = begun_here p g x r k h.before v new in
-            let at = (vertex_in p g x r.bits r.most r.level_count r.levels.old r.parts.old r.old_told k v it.0).0 in
-            ap (has_number v) (began6 (range_of r.bits v) at) ∙ has_number-append v (place_of r.bits r.parts.old v).began (place_of r.bits r.parts.lifted v).begun ∙ or_right (has_number v (place_of r.bits r.parts.old v).began) (has_number v (place_of r.bits r.parts.lifted v).begun) (begun_home p g x r k h.before graph small v it.0 ∙ new)
+            let at = (vertex_in p g x r.width r.most r.level_count r.levels.old r.parts.old r.old_told k v it.0).0 in
+            ap (has_number v) (began6 (range_of r.width v) at) ∙ has_number-append v (place_of r.width r.parts.old v).began (place_of r.width r.parts.lifted v).begun ∙ or_right (has_number v (place_of r.width r.parts.old v).began) (has_number v (place_of r.width r.parts.lifted v).begun) (begun_home p g x r k h.before graph small v it.0 ∙ new)
         | stays off none ↦ absurd (true≢false (sym up ∙ rises_lifted p g x r k h.before v ∙ or_from (rises r.levels.stopped v) (has_number v (begun_in r.parts.lifted)) off none))
       ];
       own = λ j v at there.
@@ -203,7 +204,7 @@ module _ (p : Profile) (g : GraphShape) (x : List ℕ) (r : Passage) (k : AreKee
           ]);
     }
 
-    pub rest_on : AreAtRest (cut_of r.bits p6 told6)
+    pub rest_on : AreAtRest (cut_of r.width p6 told6)
     rest_on = record {
       own = λ j i v w at there.
           let now : has_edge (v, w) (get_or (at_place r.parts.risen j).meetings i []) ≡ true = ap (λ (q : Part). has_edge (v, w) (get_or q.meetings i [])) (sym (taken_at j (within j at))) ∙ there in

@@ -21,19 +21,19 @@ use Rattle.kc_insert.proofs.Tests.{and_on, or_off}
 
 -- the sweep before and after a step
 abbrev pub before_step : Passage → Sweeping
-before_step r = sweeping_of r.levels.old (cut_of r.bits r.parts.old r.old_told)
+before_step r = sweeping_of r.levels.old (cut_of r.width r.parts.old r.old_told)
 
 abbrev pub after_step : Passage → Sweeping
-after_step r = sweeping_of r.levels.lifted (cut_of r.bits r.parts.risen r.new_told)
+after_step r = sweeping_of r.levels.lifted (cut_of r.width r.parts.risen r.new_told)
 
-module _ (p : Profile) (g : GraphShape) (x : List ℕ) (r : Passage) (k : AreKeeping p g x r.bits r.most r.level_count r.levels.old r.parts.old r.old_told) (h : HasPassed g r) where
+module _ (p : Profile) (g : GraphShape) (x : List ℕ) (r : Passage) (k : AreKeeping p g x r.width r.most r.level_count r.levels.old r.parts.old r.old_told) (h : HasPassed g r) where
   listed_old : (v : ℕ) → has_number v (before_step r).rising ≡ rises r.levels.old v
-  listed_old v = listed p g x r.bits r.most r.level_count r.levels.old r.parts.old r.old_told k v
+  listed_old v = listed p g x r.width r.most r.level_count r.levels.old r.parts.old r.old_told k v
 
   -- each vertex on the level that counts many goes on or begins
-  many_move : (v : ℕ) → v < g.vertices → get_or (seen r.levels.old) v 0 ≡ r.levels.old.level → r.most < count_in r.bits r.parts.old v → (rises r.levels.stopped v ≡ true) ⊎ (has_number v (begun_in r.parts.lifted) ≡ true)
+  many_move : (v : ℕ) → v < g.vertices → get_or (seen r.levels.old) v 0 ≡ r.levels.old.level → r.most < count_in r.width r.parts.old v → (rises r.levels.stopped v ≡ true) ⊎ (has_number v (begun_in r.parts.lifted) ≡ true)
   many_move v at on many = elim (cases_Bool (rises r.levels.old v)) [
-    | inl up ↦ inl (left_is p g x r k h.before v ∙ and_from (rises r.levels.old v) _ up (lt-ltb r.most (count_in r.bits r.parts.old v) many))
+    | inl up ↦ inl (left_is p g x r k h.before v ∙ and_from (rises r.levels.old v) _ up (lt-ltb r.most (count_in r.width r.parts.old v) many))
     | inr none ↦ elim (k.sweeping.awaited.found v at) [
       | inl meets ↦ absurd (many_breaks p g x (before_step r) k.sweeping v r.levels.old.level at on (omega (arith, many, k.most_is)) meets)
       | inr (inl rises_) ↦ absurd (true≢false (sym rises_ ∙ listed_old v ∙ none))
@@ -41,10 +41,10 @@ module _ (p : Profile) (g : GraphShape) (x : List ℕ) (r : Passage) (k : AreKee
     ]
   ]
 
-  pub step_goes : (v : ℕ) → v < g.vertices → get_or (seen r.levels.old) v 0 ≡ r.levels.old.level → r.most < count_in r.bits r.parts.old v → get_or (seen r.levels.lifted) v 0 ≡ r.levels.old.level + 1
+  pub step_goes : (v : ℕ) → v < g.vertices → get_or (seen r.levels.old) v 0 ≡ r.levels.old.level → r.most < count_in r.width r.parts.old v → get_or (seen r.levels.lifted) v 0 ≡ r.levels.old.level + 1
   step_goes v at on many = elim (many_move v at on many) [ inl up ↦ seen_on p g x r k h.before v up | inr there ↦ seen_begun p g x r k h.before v there ]
 
-  pub step_stays : (v : ℕ) → v < g.vertices → get_or (seen r.levels.old) v 0 ≡ r.levels.old.level → count_in r.bits r.parts.old v ≤ r.most → get_or (seen r.levels.lifted) v 0 ≡ r.levels.old.level
+  pub step_stays : (v : ℕ) → v < g.vertices → get_or (seen r.levels.old) v 0 ≡ r.levels.old.level → count_in r.width r.parts.old v ≤ r.most → get_or (seen r.levels.lifted) v 0 ≡ r.levels.old.level
   step_stays v at on few = elim (move_of p g x r k h.before v) [
     | goes up none ↦ absurd (omega (arith, few, (left_here p g x r k h.before v up).4))
     | begins off there ↦ absurd (omega (arith, few, (begun_here p g x r k h.before v there).4))
@@ -105,7 +105,7 @@ module _ (p : Profile) (g : GraphShape) (x : List ℕ) (r : Passage) (k : AreKee
   listed_lifted v = has_number-filter v (rises r.levels.lifted) (began_in r.parts.risen) ∙ elim (cases_Bool (rises r.levels.lifted v)) [
     | inr none ↦ and_right (has_number v (began_in r.parts.risen)) (rises r.levels.lifted v) none ∙ sym none
     | inl up ↦ and_on (has_number v (began_in r.parts.risen)) (rises r.levels.lifted v) (has_began v ∙ elim (move_of p g x r k h.before v) [
-      | goes on none ↦ or_left (has_number v (began_in r.parts.old)) (has_number v (begun_in r.parts.lifted)) (began_at p g x r.bits r.most r.level_count r.levels.old r.parts.old r.old_told k v (left_here p g x r k h.before v on).3).1
+      | goes on none ↦ or_left (has_number v (began_in r.parts.old)) (has_number v (begun_in r.parts.lifted)) (began_at p g x r.width r.most r.level_count r.levels.old r.parts.old r.old_told k v (left_here p g x r k h.before v on).3).1
       | begins off there ↦ or_right (has_number v (began_in r.parts.old)) (has_number v (begun_in r.parts.lifted)) there
       | stays off none ↦ absurd (true≢false (sym up ∙ rises_lifted p g x r k h.before v ∙ or_from (rises r.levels.stopped v) (has_number v (begun_in r.parts.lifted)) off none))
     ])
@@ -157,7 +157,7 @@ module _ (p : Profile) (g : GraphShape) (x : List ℕ) (r : Passage) (k : AreKee
             )
       ]
 
-  few_out : (v : ℕ) → count_in r.bits r.parts.old v ≤ r.most → rises r.levels.stopped v || has_number v (begun_in r.parts.lifted) ≡ false
+  few_out : (v : ℕ) → count_in r.width r.parts.old v ≤ r.most → rises r.levels.stopped v || has_number v (begun_in r.parts.lifted) ≡ false
   few_out v few = elim (move_of p g x r k h.before v) [
     | goes on none ↦ absurd (omega (arith, few, (left_here p g x r k h.before v on).4))
     | begins off new ↦ absurd (omega (arith, few, (begun_here p g x r k h.before v new).4))

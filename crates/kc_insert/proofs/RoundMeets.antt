@@ -23,7 +23,7 @@ use Rattle.kc_insert.proofs.RoundTold.{above_stood, second_step, stored_still}
 use Rattle.kc_insert.proofs.Stepping.{stood_above}
 use Rattle.kc_insert.proofs.Tests.{or_either}
 
-module _ (p : Profile) (g : GraphShape) (x : List ℕ) (r : Passage) (k : AreKeeping p g x r.bits r.most r.level_count r.levels.old r.parts.old r.old_told) (h : HasPassed g r) (graph : IsGraph g) (small : r.levels.old.level < 65534) (few : r.level_count ≤ 65535) (tops : top_level p g.vertices < 65535) where
+module _ (p : Profile) (g : GraphShape) (x : List ℕ) (r : Passage) (k : AreKeeping p g x r.width r.most r.level_count r.levels.old r.parts.old r.old_told) (h : HasPassed g r) (graph : IsGraph g) (small : r.levels.old.level < 65534) (few : r.level_count ≤ 65535) (tops : top_level p g.vertices < 65535) where
   -- the meetings of the vertices that begin
   abbrev new_met : ℕ → List Pair
   new_met i = flat_map (meetings_of (second_step p g x r k h.before graph small) i) (begun_in r.parts.lifted)

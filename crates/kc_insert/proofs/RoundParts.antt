@@ -20,11 +20,11 @@ at_place ps j = get_or ps j no_part
 
 -- the range of v
 abbrev pub place_of : ℕ → List Part → ℕ → Part
-place_of bits ps v = get_or ps (range_of bits v) no_part
+place_of width ps v = get_or ps (range_of width v) no_part
 
 -- how many neighbours v counts
 abbrev pub count_in : ℕ → List Part → ℕ → ℕ
-count_in bits ps v = count_at (place_of bits ps v).watch v
+count_in width ps v = count_at (place_of width ps v).watch v
 
 -- the lists of all ranges one after another
 abbrev pub stay_in : List Part → List ℕ
@@ -38,7 +38,7 @@ waits_in k ps = flat_map (λ (q : Part). get_or q.queue k []) ps
 
 -- a step from the level l
 abbrev pub step_at : GraphShape → RisingLevels → ℕ → ℕ → Bool → Crossing
-step_at g s bits l dealt = record { graph = g; levels = s; bits = bits; level = l; is_dealt = dealt }
+step_at g s width l dealt = record { graph = g; levels = s; width = width; level = l; is_dealt = dealt }
 
 -- the levels during a step: before it, once vertices stopped, once the others are on the next level, and once vertices began
 pub record LevelStages : Type 0 where
@@ -60,7 +60,7 @@ pub record PartStages : Type 0 where
 -- A step of a sweep, call by call: the levels and the ranges, what was told before and afterwards, the vertices that
 -- begin, and whether each of the two passes deals what it tells.
 pub record Passage : Type 0 where
-  pub bits : ℕ
+  pub width : ℕ
   pub level_count : ℕ
   pub most : ℕ
   pub above : ℕ
@@ -76,17 +76,17 @@ pub record Passage : Type 0 where
 -- too many are `starting`; some vertices stay; the others hear of it; all that rise go to the next level; those in `starting` begin
 pub record HasLifted (g : GraphShape) (r : Passage) : Type 0 where
   pub took : TookWaiting r.levels.old.level r.parts.old r.parts.taken
-  pub movers : r.starting ≡ filter (is_over (count_in r.bits r.parts.taken) r.most) (waits_in r.levels.old.level r.parts.old)
+  pub movers : r.starting ≡ filter (is_over (count_in r.width r.parts.taken) r.most) (waits_in r.levels.old.level r.parts.old)
   pub stopped : AllLetStay r.levels.old r.levels.stopped r.parts.taken r.parts.stopped
-  pub parted : AllParted (step_at g r.levels.stopped r.bits r.levels.old.level r.less) r.parts.stopped r.parts.parted
+  pub parted : AllParted (step_at g r.levels.stopped r.width r.levels.old.level r.less) r.parts.stopped r.parts.parted
   pub gone : (risers : List ℕ) → ((v : ℕ) → rises r.levels.stopped v ≡ has_number v risers) → seen r.levels.next ≡ all_at (seen r.levels.stopped) risers (r.levels.old.level + 1)
   pub next : (r.levels.next.level ≡ r.levels.old.level + 1) × ((v : ℕ) → rises r.levels.next v ≡ rises r.levels.stopped v)
-  pub lifted : LiftedOff r.levels.old.level r.levels.next r.levels.lifted r.starting r.bits r.parts.parted r.parts.lifted
+  pub lifted : LiftedOff r.levels.old.level r.levels.next r.levels.lifted r.starting r.width r.parts.parted r.parts.lifted
 
 -- the same with the last call: all ranges rise
 pub record HasPassed (g : GraphShape) (r : Passage) : Type 0 where
   pub before : HasLifted g r
-  pub risen : AllRisen (step_at g r.levels.lifted r.bits r.levels.old.level r.more) r.above r.parts.lifted r.parts.risen
+  pub risen : AllRisen (step_at g r.levels.lifted r.width r.levels.old.level r.more) r.above r.parts.lifted r.parts.risen
 
 module _ (g : GraphShape) (r : Passage) (h : HasLifted g r) where
   pub long_taken : length r.parts.taken ≡ length r.parts.old
@@ -180,16 +180,16 @@ module _ (g : GraphShape) (r : Passage) (h : HasPassed g r) where
   long_risen = h.risen.sized ∙ long_lifted g r h.before
 
   module _ (j : ℕ) (at : j < length r.parts.old) where
-    pub risen_at : RisesAndHears (step_at g r.levels.lifted r.bits r.levels.old.level r.more) r.above (in_range r.bits j (rise_told (step_at g r.levels.lifted r.bits r.levels.old.level r.more) r.parts.lifted)) (at_place r.parts.lifted j) (at_place r.parts.risen j)
+    pub risen_at : RisesAndHears (step_at g r.levels.lifted r.width r.levels.old.level r.more) r.above (in_range r.width j (rise_told (step_at g r.levels.lifted r.width r.levels.old.level r.more) r.parts.lifted)) (at_place r.parts.lifted j) (at_place r.parts.risen j)
     risen_at = h.risen.each j no_part (omega (arith, at, long_lifted g r h.before))
 
     abbrev pub mid : Part
     mid = risen_at.mid
 
-    pub rose_at : HasRisen (step_at g r.levels.lifted r.bits r.levels.old.level r.more) (at_place r.parts.lifted j) mid
+    pub rose_at : HasRisen (step_at g r.levels.lifted r.width r.levels.old.level r.more) (at_place r.parts.lifted j) mid
     rose_at = risen_at.risen
 
-    pub met_at : HaveMet (r.levels.old.level + 1) r.above (in_range r.bits j (rise_told (step_at g r.levels.lifted r.bits r.levels.old.level r.more) r.parts.lifted)) (record mid { tell = (at_place r.parts.risen j).tell }) (at_place r.parts.risen j)
+    pub met_at : HaveMet (r.levels.old.level + 1) r.above (in_range r.width j (rise_told (step_at g r.levels.lifted r.width r.levels.old.level r.more) r.parts.lifted)) (record mid { tell = (at_place r.parts.risen j).tell }) (at_place r.parts.risen j)
     met_at = risen_at.met
 
     pub watched_mid : StayWatched (at_place r.parts.lifted j).watch mid.watch

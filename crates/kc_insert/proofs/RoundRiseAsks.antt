@@ -29,7 +29,7 @@ use Rattle.kc_insert.proofs.RoundTold.{left_none, left_told, met_on, more_told, 
 use Rattle.kc_insert.proofs.Seen.{length-seen}
 use Rattle.kc_insert.proofs.Tests.{and_second, count_none}
 
-module _ (p : Profile) (g : GraphShape) (x : List ℕ) (r : Passage) (k : AreKeeping p g x r.bits r.most r.level_count r.levels.old r.parts.old r.old_told) (h : HasLifted g r) (graph : IsGraph g) (small : r.levels.old.level < 65534) (few : g.vertices ≤ 2 ^ 24) (room : r.levels.old.level < top_level p g.vertices) (tops : r.level_count ≡ top_level p g.vertices + 1) where
+module _ (p : Profile) (g : GraphShape) (x : List ℕ) (r : Passage) (k : AreKeeping p g x r.width r.most r.level_count r.levels.old r.parts.old r.old_told) (h : HasLifted g r) (graph : IsGraph g) (small : r.levels.old.level < 65534) (few : g.vertices ≤ 2 ^ 24) (room : r.levels.old.level < top_level p g.vertices) (tops : r.level_count ≡ top_level p g.vertices + 1) where
   abbrev rise_step : Crossing
   rise_step = second_step p g x r k h graph small
 
@@ -37,7 +37,7 @@ module _ (p : Profile) (g : GraphShape) (x : List ℕ) (r : Passage) (k : AreKee
   within i at = omega (arith, at, long_lifted g r h)
 
   -- a vertex leaves behind no more neighbours than it counts
-  left_fits : (v : ℕ) → v < g.vertices → left p g x r k h graph small v ≤ count_in r.bits r.parts.lifted v
+  left_fits : (v : ℕ) → v < g.vertices → left p g x r k h graph small v ≤ count_in r.width r.parts.lifted v
   left_fits v at = elim (move_of p g x r k h v) [
     | goes on none ↦
         let up : rises r.levels.lifted v ≡ true = rises_lifted p g x r k h v ∙ or_left (rises r.levels.stopped v) (has_number v (begun_in r.parts.lifted)) on in
@@ -78,7 +78,7 @@ module _ (p : Profile) (g : GraphShape) (x : List ℕ) (r : Passage) (k : AreKee
       cond_few b n = grind (arith, nat_tests)
 
   -- no count is greater than a degree
-  count_few : (v : ℕ) → v < g.vertices → count_in r.bits r.parts.lifted v ≤ g.vertices
+  count_few : (v : ℕ) → v < g.vertices → count_in r.width r.parts.lifted v ≤ g.vertices
   count_few v at = omega (
     arith,
     count_lifted p g x r k h graph small v at,
@@ -98,11 +98,11 @@ module _ (p : Profile) (g : GraphShape) (x : List ℕ) (r : Passage) (k : AreKee
 
   -- one range
   module _ (i : ℕ) (at : i < length r.parts.old) where
-    met_held : (l v w : ℕ) → r.levels.old.level ≤ l → has_edge (v, w) (get_or (at_place r.parts.lifted i).meetings l []) ≡ true → (v < g.vertices) × (w < g.vertices) × (range_of r.bits v ≡ i) × HasVertex (at_place r.parts.lifted i).watch v
+    met_held : (l v w : ℕ) → r.levels.old.level ≤ l → has_edge (v, w) (get_or (at_place r.parts.lifted i).meetings l []) ≡ true → (v < g.vertices) × (w < g.vertices) × (range_of r.width v ≡ i) × HasVertex (at_place r.parts.lifted i).watch v
     met_held l v w from there =
         let was : has_edge (v, w) (get_or (at_place r.parts.old i).meetings l []) ≡ true = ap (λ (m : List (List Pair)). has_edge (v, w) (get_or m l [])) (sym (meetings_lifted g r h i at)) ∙ there in
         let held = k.rest.own i l v w at was in
-        let own = own_count p g x r.bits r.most r.level_count r.levels.old r.parts.old r.old_told k i v at held in
+        let own = own_count p g x r.width r.most r.level_count r.levels.old r.parts.old r.old_told k i v at held in
         let it = (k.sweeping.awaited.met l v w from (pairs_of (λ (q : Part). get_or q.meetings l []) r.parts.old (v, w) i at was)).1 in
         (own.0, neighbour_below g.vertices v w g.edges graph it.near, own.1, held_lifted g r h i at v held)
 
@@ -110,13 +110,13 @@ module _ (p : Profile) (g : GraphShape) (x : List ℕ) (r : Passage) (k : AreKee
     begun_held v there =
         let own = h.lifted.own i v no_part (omega (arith, at, long_lifted g r h, h.lifted.sized)) there in
         let it = begun_here p g x r k h v (joined_of (λ (q : Part). q.begun) r.parts.lifted v i (omega (arith, at, long_lifted g r h)) there) in
-        (it.0, held_lifted g r h i at v (subst (λ j. HasVertex (at_place r.parts.old j).watch v) own (vertex_in p g x r.bits r.most r.level_count r.levels.old r.parts.old r.old_told k v it.0).1))
+        (it.0, held_lifted g r h i at v (subst (λ j. HasVertex (at_place r.parts.old j).watch v) own (vertex_in p g x r.width r.most r.level_count r.levels.old r.parts.old r.old_told k v it.0).1))
 
     enough : (v : ℕ) → times v (left_at rise_step (get_or (at_place r.parts.lifted i).meetings r.levels.old.level [])) ≤ count_at (at_place r.parts.lifted i).watch v
     enough v = elim (cases_Bool (has_number v (left_at rise_step (get_or (at_place r.parts.lifted i).meetings r.levels.old.level [])))) [
       | inr none ↦ omega (arith, times_none v (left_at rise_step (get_or (at_place r.parts.lifted i).meetings r.levels.old.level [])) none)
       | inl there ↦
-          let own = inside_ends (λ u. (u < g.vertices) × (range_of r.bits u ≡ i)) (λ (e : Pair). e.0) (λ (e : Pair). rises r.levels.lifted e.0 && eqb (get_or (seen r.levels.lifted) e.1 0) r.levels.old.level) (get_or (at_place r.parts.lifted i).meetings r.levels.old.level []) (λ u w edge. let it = met_held r.levels.old.level u w (omega arith) edge in (it.0, it.2)) v there in
+          let own = inside_ends (λ u. (u < g.vertices) × (range_of r.width u ≡ i)) (λ (e : Pair). e.0) (λ (e : Pair). rises r.levels.lifted e.0 && eqb (get_or (seen r.levels.lifted) e.1 0) r.levels.old.level) (get_or (at_place r.parts.lifted i).meetings r.levels.old.level []) (λ u w edge. let it = met_held r.levels.old.level u w (omega arith) edge in (it.0, it.2)) v there in
           subst (λ j. times v (left_at rise_step (get_or (at_place r.parts.lifted j).meetings r.levels.old.level [])) ≤ count_at (at_place r.parts.lifted j).watch v) own.1 (left_fits v own.0)
     ]
 
@@ -133,7 +133,7 @@ module _ (p : Profile) (g : GraphShape) (x : List ℕ) (r : Passage) (k : AreKee
       steps = omega (arith, steps_lifted g r h i at, k.rest.steps i at, degrees_few g graph few (at_place r.parts.stopped i).stay (few_distinct g.vertices (at_place r.parts.stopped i).stay (distinct_part (λ (q : Part). q.stay) r.parts.stopped i (omega (arith, at, long_stopped g r h)) h.stopped.distinct) (λ v there. (stay_few p g x r k h v (joined_of (λ (q : Part). q.stay) r.parts.stopped v i (omega (arith, at, long_stopped g r h)) there)).2)));
       levels = omega (arith, ap (λ (m : List (List Pair)). length m) (meetings_lifted g r h i at), k.shape.meetings i at, tops, room);
       places = λ w above. omega (arith, ap (λ (m : List (List Pair)). length m) (meetings_lifted g r h i at), k.shape.meetings i at, tops, place w above);
-      ranges = λ v inside_. omega (arith, (vertex_in p g x r.bits r.most r.level_count r.levels.old r.parts.old r.old_told k v inside_).0, lists_are);
+      ranges = λ v inside_. omega (arith, (vertex_in p g x r.width r.most r.level_count r.levels.old r.parts.old r.old_told k v inside_).0, lists_are);
     }
       where
         place : (w : ℕ) → is_above rise_step w ≡ true → get_or r.levels.lifted.stored w 0 ≤ top_level p g.vertices
@@ -149,8 +149,8 @@ module _ (p : Profile) (g : GraphShape) (x : List ℕ) (r : Passage) (k : AreKee
     each = λ i d at. subst (CanRise rise_step) (sym (get_or_default r.parts.lifted i d no_part at)) (ask_one i (within i at));
     lists = λ i d at. ap (λ (q : Part). length q.tell.lists) (get_or_default r.parts.lifted i d no_part at) ∙ lists_are i (within i at) ∙ sym (long_lifted g r h);
     held = λ v d there.
-        let it = vertex_in p g x r.bits r.most r.level_count r.levels.old r.parts.old r.old_told k v (told_next p g x r k h graph small v there).0 in
-        (omega (arith, it.0, long_lifted g r h), subst (λ (q : Part). HasVertex q.watch v) (sym (get_or_default r.parts.lifted (range_of r.bits v) d no_part (omega (arith, it.0, long_lifted g r h)))) (held_lifted g r h (range_of r.bits v) it.0 v it.1));
+        let it = vertex_in p g x r.width r.most r.level_count r.levels.old r.parts.old r.old_told k v (told_next p g x r k h graph small v there).0 in
+        (omega (arith, it.0, long_lifted g r h), subst (λ (q : Part). HasVertex q.watch v) (sym (get_or_default r.parts.lifted (range_of r.width v) d no_part (omega (arith, it.0, long_lifted g r h)))) (held_lifted g r h (range_of r.width v) it.0 v it.1));
     few = λ v. omega (arith, told_few v, few);
     small = λ j d v at. omega (arith, ap (λ (q : Part). count_at q.watch v) (get_or_default r.parts.lifted j d no_part at), small_at j v (within j at));
     degree = λ v. omega (arith, degree_few g graph v, few);

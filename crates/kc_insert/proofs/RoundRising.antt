@@ -23,7 +23,7 @@ use Rattle.kc_insert.proofs.Tests.{and_first, and_on, and_second, not_second}
 use Rattle.kc_insert.proofs.Stepping.{rose_below, waits_here}
 
 abbrev pub cut_of : ℕ → List Part → List Tell → Cut
-cut_of bits ps ts = record { bits = bits; parts = ps; told = ts }
+cut_of width ps ts = record { width = width; parts = ps; told = ts }
 
 abbrev pub began_in : List Part → List ℕ
 began_in ps = flat_map (λ (q : Part). q.began) ps
@@ -32,24 +32,24 @@ abbrev pub risen_in : List Part → List ℕ
 risen_in ps = flat_map (λ (q : Part). q.risen) ps
 
 -- levels and ranges between steps, where the limit is that of the level
-pub record AreKeeping (p : Profile) (g : GraphShape) (x : List ℕ) (bits most levels : ℕ) (s0 : RisingLevels) (p0 : List Part) (t0 : List Tell) : Type 0 where
-  pub shape : IsCut g.vertices levels (cut_of bits p0 t0)
-  pub kept : AreKept s0 (cut_of bits p0 t0)
-  pub rest : AreAtRest (cut_of bits p0 t0)
-  pub limit : HasLimit most (cut_of bits p0 t0)
-  pub sweeping : IsSweeping p g x (sweeping_of s0 (cut_of bits p0 t0))
+pub record AreKeeping (p : Profile) (g : GraphShape) (x : List ℕ) (width most levels : ℕ) (s0 : RisingLevels) (p0 : List Part) (t0 : List Tell) : Type 0 where
+  pub shape : IsCut g.vertices levels (cut_of width p0 t0)
+  pub kept : AreKept s0 (cut_of width p0 t0)
+  pub rest : AreAtRest (cut_of width p0 t0)
+  pub limit : HasLimit most (cut_of width p0 t0)
+  pub sweeping : IsSweeping p g x (sweeping_of s0 (cut_of width p0 t0))
   pub most_is : most ≡ high p (group_of p g.vertices s0.level)
 
-module _ (p : Profile) (g : GraphShape) (x : List ℕ) (bits most levels : ℕ) (s0 : RisingLevels) (p0 : List Part) (t0 : List Tell) (k : AreKeeping p g x bits most levels s0 p0 t0) where
+module _ (p : Profile) (g : GraphShape) (x : List ℕ) (width most levels : ℕ) (s0 : RisingLevels) (p0 : List Part) (t0 : List Tell) (k : AreKeeping p g x width most levels s0 p0 t0) where
   -- a list of no range is empty
   pub range_inside : (f : Part → List ℕ) (v j : ℕ) → f no_part ≡ [] → has_number v (f (at_place p0 j)) ≡ true → j < length p0
   range_inside f v j none there = grind (arith, nat_tests, true≢false, get_or_past)
 
-  pub began_at : (v : ℕ) → rises s0 v ≡ true → (range_of bits v < length p0) × (has_number v (began_in p0) ≡ true)
+  pub began_at : (v : ℕ) → rises s0 v ≡ true → (range_of width v < length p0) × (has_number v (began_in p0) ≡ true)
   began_at v up =
       let there = k.kept.began v up in
-      let at : range_of bits v < length p0 = range_inside (λ (q : Part). q.began) v (range_of bits v) refl there in
-      (at, joined_of (λ (q : Part). q.began) p0 v (range_of bits v) at there)
+      let at : range_of width v < length p0 = range_inside (λ (q : Part). q.began) v (range_of width v) refl there in
+      (at, joined_of (λ (q : Part). q.began) p0 v (range_of width v) at there)
 
   -- the vertices that rise are those in the list
   pub listed : (v : ℕ) → has_number v (filter (rises s0) (began_in p0)) ≡ rises s0 v
@@ -59,74 +59,74 @@ module _ (p : Profile) (g : GraphShape) (x : List ℕ) (bits most levels : ℕ) 
   ]
 
   -- a vertex that a range has is of the graph, and the range is its own
-  pub own_count : (j v : ℕ) → j < length p0 → HasVertex (at_place p0 j).watch v → (v < g.vertices) × (range_of bits v ≡ j) × (count_in bits p0 v ≡ count_at (at_place p0 j).watch v)
+  pub own_count : (j v : ℕ) → j < length p0 → HasVertex (at_place p0 j).watch v → (v < g.vertices) × (range_of width v ≡ j) × (count_in width p0 v ≡ count_at (at_place p0 j).watch v)
   own_count j v at held =
       let it = k.shape.own j v at held in
       (it.0, it.1, ap (λ i. count_at (at_place p0 i).watch v) it.1)
 
-  pub vertex_in : (v : ℕ) → v < g.vertices → (range_of bits v < length p0) × HasVertex (at_place p0 (range_of bits v)).watch v
+  pub vertex_in : (v : ℕ) → v < g.vertices → (range_of width v < length p0) × HasVertex (at_place p0 (range_of width v)).watch v
   vertex_in v h = let it = k.shape.vertex v h in (it.place, it.held)
 
-module _ (p : Profile) (g : GraphShape) (x : List ℕ) (r : Passage) (k : AreKeeping p g x r.bits r.most r.level_count r.levels.old r.parts.old r.old_told) (h : HasLifted g r) where
-  count_taken : (v : ℕ) → count_in r.bits r.parts.taken v ≡ count_in r.bits r.parts.old v
-  count_taken v = elim (cases_lt (range_of r.bits v) (length r.parts.old)) [
-    | inl at ↦ ap (λ (w : Watch). count_at w v) (watch_taken g r h (range_of r.bits v) at)
-    | inr past ↦ ap (λ (q : Part). count_at q.watch v) (get_or_past r.parts.taken (range_of r.bits v) no_part (omega (arith, past, h.took.sized)) ∙ sym (get_or_past r.parts.old (range_of r.bits v) no_part past))
+module _ (p : Profile) (g : GraphShape) (x : List ℕ) (r : Passage) (k : AreKeeping p g x r.width r.most r.level_count r.levels.old r.parts.old r.old_told) (h : HasLifted g r) where
+  count_taken : (v : ℕ) → count_in r.width r.parts.taken v ≡ count_in r.width r.parts.old v
+  count_taken v = elim (cases_lt (range_of r.width v) (length r.parts.old)) [
+    | inl at ↦ ap (λ (w : Watch). count_at w v) (watch_taken g r h (range_of r.width v) at)
+    | inr past ↦ ap (λ (q : Part). count_at q.watch v) (get_or_past r.parts.taken (range_of r.width v) no_part (omega (arith, past, h.took.sized)) ∙ sym (get_or_past r.parts.old (range_of r.width v) no_part past))
   ]
 
   -- a vertex that rises on counts many
-  over_left : (v : ℕ) → rises r.levels.stopped v ≡ true → (rises r.levels.old v ≡ true) × (r.most < count_in r.bits r.parts.old v)
+  over_left : (v : ℕ) → rises r.levels.stopped v ≡ true → (rises r.levels.old v ≡ true) × (r.most < count_in r.width r.parts.old v)
   over_left v on =
       let was : rises r.levels.old v ≡ true = and_first (rises r.levels.old v) (not (has_number v (stay_in r.parts.stopped))) (sym (h.stopped.rises_on v) ∙ on) in
-      let at : range_of r.bits v < length r.parts.old = (began_at p g x r.bits r.most r.level_count r.levels.old r.parts.old r.old_told k v was).0 in (
+      let at : range_of r.width v < length r.parts.old = (began_at p g x r.width r.most r.level_count r.levels.old r.parts.old r.old_told k v was).0 in (
         was,
-        elim (cases_lt r.most (count_in r.bits r.parts.old v)) [
+        elim (cases_lt r.most (count_in r.width r.parts.old v)) [
           | inl over ↦ over
           | inr few ↦
-              let same = watch_taken g r h (range_of r.bits v) at in
-              let listed_ = k.kept.few v was (omega (arith, few, k.limit (range_of r.bits v) at)) in
-              let over = h.stopped.over (range_of r.bits v) v no_part (omega (arith, at, h.took.sized)) (ap (λ (w : Watch). has_number v w.doubtful) same ∙ listed_) on in
-              omega (arith, over, ap (λ (w : Watch). w.most) same, ap (λ (w : Watch). count_at w v) same, k.limit (range_of r.bits v) at)
+              let same = watch_taken g r h (range_of r.width v) at in
+              let listed_ = k.kept.few v was (omega (arith, few, k.limit (range_of r.width v) at)) in
+              let over = h.stopped.over (range_of r.width v) v no_part (omega (arith, at, h.took.sized)) (ap (λ (w : Watch). has_number v w.doubtful) same ∙ listed_) on in
+              omega (arith, over, ap (λ (w : Watch). w.most) same, ap (λ (w : Watch). count_at w v) same, k.limit (range_of r.width v) at)
         ],
       )
 
   -- a vertex that stays counts few
-  pub stay_few : (v : ℕ) → has_number v (stay_in r.parts.stopped) ≡ true → (rises r.levels.old v ≡ true) × (count_in r.bits r.parts.old v ≤ r.most) × (v < g.vertices)
+  pub stay_few : (v : ℕ) → has_number v (stay_in r.parts.stopped) ≡ true → (rises r.levels.old v ≡ true) × (count_in r.width r.parts.old v ≤ r.most) × (v < g.vertices)
   stay_few v there =
       let in_ = joined_in (λ (q : Part). q.stay) r.parts.stopped v there in
       let at : in_.0 < length r.parts.old = omega (arith, in_.1, h.stopped.sized, h.took.sized) in
       let it = h.stopped.stays in_.0 v no_part (omega (arith, at, h.took.sized)) in_.2 in
       let same = watch_taken g r h in_.0 at in
       let held : HasVertex (at_place r.parts.old in_.0).watch v = subst (λ w. HasVertex w v) same it.2 in
-      let own = own_count p g x r.bits r.most r.level_count r.levels.old r.parts.old r.old_told k in_.0 v at held in
+      let own = own_count p g x r.width r.most r.level_count r.levels.old r.parts.old r.old_told k in_.0 v at held in
       (it.0, omega (arith, it.1, own.2, ap (λ (w : Watch). w.most) same, ap (λ (w : Watch). count_at w v) same, k.limit in_.0 at), own.0)
 
   -- the vertices that rise on are those that rise and count many
-  pub left_is : (v : ℕ) → rises r.levels.stopped v ≡ rises r.levels.old v && is_over (count_in r.bits r.parts.old) r.most v
+  pub left_is : (v : ℕ) → rises r.levels.stopped v ≡ rises r.levels.old v && is_over (count_in r.width r.parts.old) r.most v
   left_is v = elim (cases_Bool (rises r.levels.stopped v)) [
-    | inl on ↦ let it = over_left v on in on ∙ sym (and_from (rises r.levels.old v) (is_over (count_in r.bits r.parts.old) r.most v) it.0 (lt-ltb r.most (count_in r.bits r.parts.old v) it.1))
+    | inl on ↦ let it = over_left v on in on ∙ sym (and_from (rises r.levels.old v) (is_over (count_in r.width r.parts.old) r.most v) it.0 (lt-ltb r.most (count_in r.width r.parts.old v) it.1))
     | inr off ↦ off ∙ sym (elim (cases_Bool (rises r.levels.old v)) [
-      | inr none ↦ ap (λ b. b && is_over (count_in r.bits r.parts.old) r.most v) none
-      | inl was ↦ and_right (rises r.levels.old v) (is_over (count_in r.bits r.parts.old) r.most v) (le-ltb r.most (count_in r.bits r.parts.old v) (stay_few v (not_second (rises r.levels.old v) (has_number v (stay_in r.parts.stopped)) was (sym (h.stopped.rises_on v) ∙ off))).1)
+      | inr none ↦ ap (λ b. b && is_over (count_in r.width r.parts.old) r.most v) none
+      | inl was ↦ and_right (rises r.levels.old v) (is_over (count_in r.width r.parts.old) r.most v) (le-ltb r.most (count_in r.width r.parts.old v) (stay_few v (not_second (rises r.levels.old v) (has_number v (stay_in r.parts.stopped)) was (sym (h.stopped.rises_on v) ∙ off))).1)
     ])
   ]
 
   -- the vertices that begin are those that wait and count many
-  pub begun_is : (v : ℕ) → has_number v (begun_in r.parts.lifted) ≡ has_number v (waits_in r.levels.old.level r.parts.old) && is_over (count_in r.bits r.parts.old) r.most v
+  pub begun_is : (v : ℕ) → has_number v (begun_in r.parts.lifted) ≡ has_number v (waits_in r.levels.old.level r.parts.old) && is_over (count_in r.width r.parts.old) r.most v
   begun_is v =
-      h.lifted.begun v ∙ ap (has_number v) h.movers ∙ has_number-filter v (is_over (count_in r.bits r.parts.taken) r.most) (waits_in r.levels.old.level r.parts.old)
+      h.lifted.begun v ∙ ap (has_number v) h.movers ∙ has_number-filter v (is_over (count_in r.width r.parts.taken) r.most) (waits_in r.levels.old.level r.parts.old)
       ∙ ap (λ c. has_number v (waits_in r.levels.old.level r.parts.old) && ltb r.most c) (count_taken v)
 
-  pub begun_here : (v : ℕ) → has_number v (begun_in r.parts.lifted) ≡ true → (v < g.vertices) × (get_or x v 0 ≡ r.levels.old.level) × (get_or (seen r.levels.old) v 0 ≡ r.levels.old.level) × (rises r.levels.old v ≡ false) × (r.most < count_in r.bits r.parts.old v)
+  pub begun_here : (v : ℕ) → has_number v (begun_in r.parts.lifted) ≡ true → (v < g.vertices) × (get_or x v 0 ≡ r.levels.old.level) × (get_or (seen r.levels.old) v 0 ≡ r.levels.old.level) × (rises r.levels.old v ≡ false) × (r.most < count_in r.width r.parts.old v)
   begun_here v there =
-      let both : has_number v (waits_in r.levels.old.level r.parts.old) && is_over (count_in r.bits r.parts.old) r.most v ≡ true = sym (begun_is v) ∙ there in
-      let it = waits_here p g x (sweeping_of r.levels.old (cut_of r.bits r.parts.old r.old_told)) k.sweeping r.levels.old.level v (omega arith) (and_first (has_number v (waits_in r.levels.old.level r.parts.old)) (is_over (count_in r.bits r.parts.old) r.most v) both) in
-      (it.0, it.1, it.2, sym (listed p g x r.bits r.most r.level_count r.levels.old r.parts.old r.old_told k v) ∙ it.3, ltb-true r.most (count_in r.bits r.parts.old v) (and_second (has_number v (waits_in r.levels.old.level r.parts.old)) (is_over (count_in r.bits r.parts.old) r.most v) both))
+      let both : has_number v (waits_in r.levels.old.level r.parts.old) && is_over (count_in r.width r.parts.old) r.most v ≡ true = sym (begun_is v) ∙ there in
+      let it = waits_here p g x (sweeping_of r.levels.old (cut_of r.width r.parts.old r.old_told)) k.sweeping r.levels.old.level v (omega arith) (and_first (has_number v (waits_in r.levels.old.level r.parts.old)) (is_over (count_in r.width r.parts.old) r.most v) both) in
+      (it.0, it.1, it.2, sym (listed p g x r.width r.most r.level_count r.levels.old r.parts.old r.old_told k v) ∙ it.3, ltb-true r.most (count_in r.width r.parts.old v) (and_second (has_number v (waits_in r.levels.old.level r.parts.old)) (is_over (count_in r.width r.parts.old) r.most v) both))
 
-  pub left_here : (v : ℕ) → rises r.levels.stopped v ≡ true → (v < g.vertices) × (get_or (seen r.levels.old) v 0 ≡ r.levels.old.level) × (get_or x v 0 < r.levels.old.level) × (rises r.levels.old v ≡ true) × (r.most < count_in r.bits r.parts.old v)
+  pub left_here : (v : ℕ) → rises r.levels.stopped v ≡ true → (v < g.vertices) × (get_or (seen r.levels.old) v 0 ≡ r.levels.old.level) × (get_or x v 0 < r.levels.old.level) × (rises r.levels.old v ≡ true) × (r.most < count_in r.width r.parts.old v)
   left_here v on =
       let it = over_left v on in
-      let came = k.sweeping.rise.came v (listed p g x r.bits r.most r.level_count r.levels.old r.parts.old r.old_told k v ∙ it.0) in
+      let came = k.sweeping.rise.came v (listed p g x r.width r.most r.level_count r.levels.old r.parts.old r.old_told k v ∙ it.0) in
       (came.0, came.1, came.2, it.0, it.1)
 
   pub rises_lifted : (v : ℕ) → rises r.levels.lifted v ≡ rises r.levels.stopped v || has_number v (begun_in r.parts.lifted)
@@ -141,7 +141,7 @@ module _ (p : Profile) (g : GraphShape) (x : List ℕ) (r : Passage) (k : AreKee
 
   on_listed : (v : ℕ) → rises r.levels.stopped v ≡ has_number v on_list
   on_listed v = sym (has_number-filter v (rises r.levels.stopped) (began_in r.parts.old) ∙ elim (cases_Bool (rises r.levels.stopped v)) [
-    | inl on ↦ and_on (has_number v (began_in r.parts.old)) (rises r.levels.stopped v) (began_at p g x r.bits r.most r.level_count r.levels.old r.parts.old r.old_told k v (over_left v on).0).1
+    | inl on ↦ and_on (has_number v (began_in r.parts.old)) (rises r.levels.stopped v) (began_at p g x r.width r.most r.level_count r.levels.old r.parts.old r.old_told k v (over_left v on).0).1
     | inr off ↦ and_right (has_number v (began_in r.parts.old)) (rises r.levels.stopped v) off ∙ sym off
   ])
 

@@ -32,7 +32,7 @@ rising_stored : (s : RisingLevels) (v : ℕ) → rises s v ≡ true → get_or s
 unfolding rises
 rising_stored s v up = grind (arith, nat_tests, up)
 
-module _ (p : Profile) (g : GraphShape) (x : List ℕ) (r : Passage) (k : AreKeeping p g x r.bits r.most r.level_count r.levels.old r.parts.old r.old_told) (h : HasLifted g r) (graph : IsGraph g) (small : r.levels.old.level < 65534) where
+module _ (p : Profile) (g : GraphShape) (x : List ℕ) (r : Passage) (k : AreKeeping p g x r.width r.most r.level_count r.levels.old r.parts.old r.old_told) (h : HasLifted g r) (graph : IsGraph g) (small : r.levels.old.level < 65534) where
   abbrev pub near : ℕ → List ℕ
   near v = neighbours_of v g.edges
 
@@ -40,7 +40,7 @@ module _ (p : Profile) (g : GraphShape) (x : List ℕ) (r : Passage) (k : AreKee
   met_on j = (before_step r).meets j
 
   abbrev pub second_step : Crossing
-  second_step = step_at g r.levels.lifted r.bits r.levels.old.level r.more
+  second_step = step_at g r.levels.lifted r.width r.levels.old.level r.more
 
   -- what stands in the list afterwards
   pub stored_rising : (v : ℕ) → rises r.levels.lifted v ≡ true → get_or r.levels.lifted.stored v 0 ≡ 65535
@@ -61,28 +61,28 @@ module _ (p : Profile) (g : GraphShape) (x : List ℕ) (r : Passage) (k : AreKee
   above_is u at = grind (arith, nat_tests, lt-ltb, stored_rising, le-leb, on_next, stored_still, le-ltb, lt-leb)
 
   -- a vertex that goes on hears of each neighbour that stays
-  pub less_told : (v : ℕ) → times v (flat_map (rising_near (step_at g r.levels.stopped r.bits r.levels.old.level r.less)) (stay_in r.parts.stopped)) ≡ cond (rises r.levels.stopped v) (count_by (λ u. has_number u (stay_in r.parts.stopped)) (near v)) 0
+  pub less_told : (v : ℕ) → times v (flat_map (rising_near (step_at g r.levels.stopped r.width r.levels.old.level r.less)) (stay_in r.parts.stopped)) ≡ cond (rises r.levels.stopped v) (count_by (λ u. has_number u (stay_in r.parts.stopped)) (near v)) 0
   less_told v = times_rows g graph (rises r.levels.stopped) v (stay_in r.parts.stopped) h.stopped.distinct
 
   -- the meetings of a range on the level
   abbrev own_met : ℕ → List Pair
-  own_met v = get_or (place_of r.bits r.parts.lifted v).meetings r.levels.old.level []
+  own_met v = get_or (place_of r.width r.parts.lifted v).meetings r.levels.old.level []
 
-  own_met_is : (v : ℕ) → v < g.vertices → own_met v ≡ get_or (place_of r.bits r.parts.old v).meetings r.levels.old.level []
-  own_met_is v at = ap (λ (m : List (List Pair)). get_or m r.levels.old.level []) (meetings_lifted g r h (range_of r.bits v) (vertex_in p g x r.bits r.most r.level_count r.levels.old r.parts.old r.old_told k v at).0)
+  own_met_is : (v : ℕ) → v < g.vertices → own_met v ≡ get_or (place_of r.width r.parts.old v).meetings r.levels.old.level []
+  own_met_is v at = ap (λ (m : List (List Pair)). get_or m r.levels.old.level []) (meetings_lifted g r h (range_of r.width v) (vertex_in p g x r.width r.most r.level_count r.levels.old r.parts.old r.old_told k v at).0)
 
   -- the meetings of v are in its range
   met_own : (v u : ℕ) → v < g.vertices → has_edge (v, u) (own_met v) ≡ has_edge (v, u) (met_on r.levels.old.level)
   met_own v u at = ap (has_edge (v, u)) (own_met_is v at) ∙ elim (cases_Bool (has_edge (v, u) (met_on r.levels.old.level))) [
     | inl there ↦ grind (arith, nat_tests, pairs_in, own_count, at_place, there)
-    | inr none ↦ elim (cases_Bool (has_edge (v, u) (get_or (place_of r.bits r.parts.old v).meetings r.levels.old.level []))) [
+    | inr none ↦ elim (cases_Bool (has_edge (v, u) (get_or (place_of r.width r.parts.old v).meetings r.levels.old.level []))) [
       | inr gone ↦ gone ∙ sym none
-      | inl here ↦ absurd (true≢false (sym (pairs_of (λ (q : Part). get_or q.meetings r.levels.old.level []) r.parts.old (v, u) (range_of r.bits v) (vertex_in p g x r.bits r.most r.level_count r.levels.old r.parts.old r.old_told k v at).0 here) ∙ none))
+      | inl here ↦ absurd (true≢false (sym (pairs_of (λ (q : Part). get_or q.meetings r.levels.old.level []) r.parts.old (v, u) (range_of r.width v) (vertex_in p g x r.width r.most r.level_count r.levels.old r.parts.old r.old_told k v at).0 here) ∙ none))
     ]
   ]
 
   own_apart : (v : ℕ) → v < g.vertices → AreApart (own_met v)
-  own_apart v at = subst AreApart (sym (own_met_is v at)) (apart_part (λ (q : Part). get_or q.meetings r.levels.old.level []) r.parts.old (range_of r.bits v) (vertex_in p g x r.bits r.most r.level_count r.levels.old r.parts.old r.old_told k v at).0 (k.sweeping.awaited.apart r.levels.old.level (omega arith)))
+  own_apart v at = subst AreApart (sym (own_met_is v at)) (apart_part (λ (q : Part). get_or q.meetings r.levels.old.level []) r.parts.old (range_of r.width v) (vertex_in p g x r.width r.most r.level_count r.levels.old r.parts.old r.old_told k v at).0 (k.sweeping.awaited.apart r.levels.old.level (omega arith)))
 
   -- a vertex that rises leaves behind each neighbour that it met and that stays
   pub left_told : (v : ℕ) → v < g.vertices → rises r.levels.lifted v ≡ true → times v (left_at second_step (own_met v)) ≡ count_by (λ u. has_edge (v, u) (met_on r.levels.old.level) && eqb (get_or (seen r.levels.lifted) u 0) r.levels.old.level) (near v)

@@ -16,7 +16,7 @@ use Rattle.kc_insert.proofs.RoundRising.{AreKeeping, begun_here, left_here, move
 use Rattle.kc_insert.proofs.RoundTold.{second_step, told_next}
 use Rattle.kc_insert.proofs.Shared.{in_range_has}
 
-module _ (p : Profile) (g : GraphShape) (x : List ℕ) (r : Passage) (k : AreKeeping p g x r.bits r.most r.level_count r.levels.old r.parts.old r.old_told) (h : HasPassed g r) (graph : IsGraph g) (small : r.levels.old.level < 65534) where
+module _ (p : Profile) (g : GraphShape) (x : List ℕ) (r : Passage) (k : AreKeeping p g x r.width r.most r.level_count r.levels.old r.parts.old r.old_told) (h : HasPassed g r) (graph : IsGraph g) (small : r.levels.old.level < 65534) where
   queue_same : (j i : ℕ) (at : j < length r.parts.old) → i ≢ r.levels.old.level → get_or (mid g r h j at).queue i [] ≡ get_or (at_place r.parts.old j).queue i []
   queue_same j i at ne = ap (λ (q : List (List ℕ)). get_or q i []) (queue_mid g r h j at) ∙ get_or-set_other (at_place r.parts.old j).queue r.levels.old.level i [] [] ne
 
@@ -31,12 +31,12 @@ module _ (p : Profile) (g : GraphShape) (x : List ℕ) (r : Passage) (k : AreKee
         let at : in_.0 < length r.parts.old = omega (arith, in_.1, long_risen g r h) in
         elim ((met_at g r h in_.0 at).only i v in_.2) [
           | inl was ↦ inl (joined_of (λ (q : Part). get_or q.queue i []) r.parts.old v in_.0 at (ap (has_number v) (sym (queue_same in_.0 i at (λ e. absurd (omega (arith, e, above))))) ∙ was))
-          | inr new ↦ let it = told_next p g x r k h.before graph small v (in_range_has r.bits in_.0 v (rise_told (second_step p g x r k h.before graph small) r.parts.lifted) new.1).0 in inr (it.0, it.1 ∙ sym new.0)
+          | inr new ↦ let it = told_next p g x r k h.before graph small v (in_range_has r.width in_.0 v (rise_told (second_step p g x r k h.before graph small) r.parts.lifted) new.1).0 in inr (it.0, it.1 ∙ sym new.0)
         ];
     noted = λ v at on many.
         let ins = inside p g x r k h.before graph small v at in
-        elim ((met_at g r h (range_of r.bits v) ins).noted v (held_mid g r h (range_of r.bits v) ins v (held p g x r k h.before graph small v at)) many) [
-          | inr there ↦ inr (joined_of (λ (q : Part). get_or q.queue (r.levels.old.level + 1) []) r.parts.risen v (range_of r.bits v) (omega (arith, ins, long_risen g r h)) there)
+        elim ((met_at g r h (range_of r.width v) ins).noted v (held_mid g r h (range_of r.width v) ins v (held p g x r k h.before graph small v at)) many) [
+          | inr there ↦ inr (joined_of (λ (q : Part). get_or q.queue (r.levels.old.level + 1) []) r.parts.risen v (range_of r.width v) (omega (arith, ins, long_risen g r h)) there)
           | inl was ↦ elim (move_of p g x r k h.before v) [
             | goes up none ↦ absurd (omega (arith, on, (left_here p g x r k h.before v up).2))
             | begins off new ↦ absurd (omega (arith, on, (begun_here p g x r k h.before v new).1))

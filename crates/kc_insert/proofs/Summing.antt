@@ -15,10 +15,10 @@ tells_are f (p ∷ ps) (t ∷ ts) same each =
     ∙ ap (λ (ys : List ℕ). f p ++ ys) (tells_are f ps ts (omega (arith, same)) (λ i d e h. each (suc i) d e (omega (arith, h))))
 
 -- the lists that the ranges told, in the places of these
-pub lists_told : (bits n : ℕ) (is_dealt : Bool) (parts : List Part) (told : List Tell) → length told ≡ length parts → ((i : ℕ) (d : Part) (e : Tell) → i < length parts → get_or told i e ≡ (get_or parts i d).tell) → ((i : ℕ) → i < length parts → length (get_or parts i no_part).tell.lists ≡ n) → (is_dealt ≡ true → (i : ℕ) → i < length parts → (k : ℕ) → k < n → get_or (get_or parts i no_part).tell.lists k [] ≡ in_range bits k (get_or parts i no_part).tell.all) → AreTold bits is_dealt n told
-lists_told bits n is_dealt parts told same tells lists dealt = record {
+pub lists_told : (width n : ℕ) (is_dealt : Bool) (parts : List Part) (told : List Tell) → length told ≡ length parts → ((i : ℕ) (d : Part) (e : Tell) → i < length parts → get_or told i e ≡ (get_or parts i d).tell) → ((i : ℕ) → i < length parts → length (get_or parts i no_part).tell.lists ≡ n) → (is_dealt ≡ true → (i : ℕ) → i < length parts → (k : ℕ) → k < n → get_or (get_or parts i no_part).tell.lists k [] ≡ in_range width k (get_or parts i no_part).tell.all) → AreTold width is_dealt n told
+lists_told width n is_dealt parts told same tells lists dealt = record {
   sized = λ i t h. ap (λ (u : Tell). length u.lists) (tells i no_part t (omega (arith, h, same))) ∙ lists i (omega (arith, h, same));
   dealt = λ is i t h k at.
       let there : i < length parts = omega (arith, h, same) in
-      ap (λ (u : Tell). get_or u.lists k []) (tells i no_part t there) ∙ dealt is i there k at ∙ ap (λ (u : Tell). in_range bits k u.all) (sym (tells i no_part t there));
+      ap (λ (u : Tell). get_or u.lists k []) (tells i no_part t there) ∙ dealt is i there k at ∙ ap (λ (u : Tell). in_range width k u.all) (sym (tells i no_part t there));
 }

@@ -1,5 +1,5 @@
 -- How a workspace keeps the vertices of a graph: cut into ranges that follow each other.
-use Rattle.std.specs.Prelude.{ℕ, ◌+◌, ◌/◌, ◌^◌, ◌≤◌, ◌<◌, ◌≡◌, true, false, Bool, List, [], length, get_or}
+use Rattle.std.specs.Prelude.{ℕ, ◌+◌, ◌/◌, ◌≤◌, ◌<◌, ◌≡◌, true, false, Bool, List, [], length, get_or}
 use Rattle.std.specs.List.{flat_map}
 use Rattle.kc_graph.specs.Numbers.{has_number}
 use Rattle.kc_graph.specs.Shape.{GraphShape, Pair}
@@ -27,9 +27,9 @@ pub record Tell : Type 0 where
   pub all : List ℕ
   pub lists : List (List ℕ)
 
--- the range of v, of ranges of 2 ^ bits vertices
+-- the range of v, of ranges of `width` vertices
 abbrev pub range_of : ℕ → ℕ → ℕ
-range_of bits v = v / 2 ^ bits
+range_of width v = v / width
 
 -- what contracts see of a `Range`
 pub record Part : Type 0 where
@@ -46,7 +46,7 @@ pub record Part : Type 0 where
 
 -- what contracts see of a `Ranges`
 pub record Cut : Type 0 where
-  pub bits : ℕ
+  pub width : ℕ
   pub parts : List Part
   pub told : List Tell
 
@@ -60,7 +60,7 @@ part_at r j = get_or r.parts j no_part
 
 -- the range of v
 abbrev pub part_of : Cut → ℕ → Part
-part_of r v = part_at r (range_of r.bits v)
+part_of r v = part_at r (range_of r.width v)
 
 -- how many neighbours each vertex counts
 abbrev pub counts_of : Cut → List ℕ
@@ -68,13 +68,14 @@ counts_of r = flat_map (λ (p : Part). p.watch.counts) r.parts
 
 -- v is a vertex of its range
 pub record IsIn (r : Cut) (v : ℕ) : Type 0 where
-  pub place : range_of r.bits v < length r.parts
+  pub place : range_of r.width v < length r.parts
   pub held : HasVertex (part_of r v).watch v
 
 -- the ranges have n vertices, each in its own range, a list for each of `levels` levels, and lists to tell all ranges
 pub record IsCut (n levels : ℕ) (r : Cut) : Type 0 where
+  pub wide : 0 < r.width
   pub vertex : (v : ℕ) → v < n → IsIn r v
-  pub own : (j v : ℕ) → j < length r.parts → HasVertex (part_at r j).watch v → (v < n) × (range_of r.bits v ≡ j)
+  pub own : (j v : ℕ) → j < length r.parts → HasVertex (part_at r j).watch v → (v < n) × (range_of r.width v ≡ j)
   pub queues : (j : ℕ) → j < length r.parts → length (part_at r j).queue ≡ levels
   pub meetings : (j : ℕ) → j < length r.parts → length (part_at r j).meetings ≡ levels
   pub tells : (j : ℕ) → j < length r.parts → length (part_at r j).tell.lists ≡ length r.parts

@@ -44,9 +44,9 @@ impl<'a> Model for Step<'a> {
 
     ghost Value = { Crossing };
 
-    ghost view = { λ s. record { graph = s.graph.now; levels = s.levels.now; bits = s.sharing.layout.bits; level = s.level; is_dealt = s.sharing.is_dealt } };
+    ghost view = { λ s. record { graph = s.graph.now; levels = s.levels.now; width = s.sharing.layout.width; level = s.level; is_dealt = s.sharing.is_dealt } };
 
-    ghost invariant = { λ s. IsCrossing (record { graph = s.graph.now; levels = s.levels.now; bits = s.sharing.layout.bits; level = s.level; is_dealt = s.sharing.is_dealt }) };
+    ghost invariant = { λ s. IsCrossing (record { graph = s.graph.now; levels = s.levels.now; width = s.sharing.layout.width; level = s.level; is_dealt = s.sharing.is_dealt }) };
 }
 
 impl<'a> Step<'a> {
@@ -55,7 +55,7 @@ impl<'a> Step<'a> {
         requires graph { IsGraph graph.now }
         requires sized { length (seen levels.now) ≡ graph.now.vertices }
         requires small { level < 65534 }
-        ensures { result ≡ record { graph = graph.now; levels = levels.now; bits = sharing.layout.bits; level = level; is_dealt = sharing.is_dealt } }
+        ensures { result ≡ record { graph = graph.now; levels = levels.now; width = sharing.layout.width; level = level; is_dealt = sharing.is_dealt } }
     {
         Step {
             graph,
@@ -244,7 +244,7 @@ impl Range {
         ensures part { OnOk result (self.new ≡ record self.old { tell = self.new.tell; steps = self.old.steps + degrees step.now.graph self.old.stay }) }
         ensures told { OnOk result (self.new.tell.all ≡ flat_map (rising_near step.now) self.old.stay) }
         ensures lists { OnOk result (length self.new.tell.lists ≡ length self.old.tell.lists) }
-        ensures dealt { OnOk result (step.now.is_dealt ≡ true → AreDealtAnew step.now.bits self.old.tell self.new.tell) }
+        ensures dealt { OnOk result (step.now.is_dealt ≡ true → AreDealtAnew step.now.width self.old.tell self.new.tell) }
     {
         self.told.clear();
         self.steps += tell_parting(step, &self.stay, &mut self.told)?;
@@ -271,7 +271,7 @@ impl Range {
         ensures part { OnOk result (self.new ≡ risen_part step.now self.old self.new) }
         ensures told { OnOk result (self.new.tell.all ≡ met_by step.now (slice_index_or self.old.meetings (step.now.level + 1) []) ++ flat_map (next_near step.now) self.old.begun) }
         ensures lists { OnOk result (length self.new.tell.lists ≡ length self.old.tell.lists) }
-        ensures dealt { OnOk result (step.now.is_dealt ≡ true → AreDealtAnew step.now.bits self.old.tell self.new.tell) }
+        ensures dealt { OnOk result (step.now.is_dealt ≡ true → AreDealtAnew step.now.width self.old.tell self.new.tell) }
         ensures risen { OnOk result (HaveRisen step.now self.old self.new) }
     {
         self.told.clear();

@@ -38,7 +38,7 @@ impl Model for Ranges {
 
     ghost Value = { Cut };
 
-    ghost view = { λ r. record { bits = r.layout.bits; parts = r.items.items; told = r.told.items } };
+    ghost view = { λ r. record { width = r.layout.width; parts = r.items.items; told = r.told.items } };
 }
 
 // Returns the steps of all ranges, which have none afterwards.
@@ -117,8 +117,8 @@ fn lift_each(
     layout: Layout,
     items: &mut [Range],
 ) -> Result<usize, AllocError>
-    requires { CanLiftOff level levels.old vertices.now layout.bits items.old }
-    ensures lifted { OnOk result (LiftedOff level levels.old levels.new vertices.now layout.bits items.old items.new) }
+    requires { CanLiftOff level levels.old vertices.now layout.width items.old }
+    ensures lifted { OnOk result (LiftedOff level levels.old levels.new vertices.now layout.width items.old items.new) }
     ensures count { IfOk result (λ count. count ≡ length (flat_map (λ p. p.begun) items.new)) }
 {
     let mut count = 0;
@@ -165,7 +165,7 @@ impl Ranges {
         levels: u16,
     ) -> Result<Self, AllocError>
         requires { length counts.now ≤ 2 ^ 24 }
-        ensures { IfOk result (λ ranges. AreNew layout.bits counts.now levels ranges) }
+        ensures { IfOk result (λ ranges. AreNew layout.width counts.now levels ranges) }
     {
         let n = counts.len() as u32;
         let ranges = layout.ranges(n);
@@ -270,7 +270,7 @@ impl Ranges {
         requires { All (λ p. level < length p.queue) self.old.parts }
         ensures waiting { IfOk result (λ r. r.items ≡ waits self.old level) }
         ensures took { OnOk result (TookWaiting level self.old.parts self.new.parts) }
-        ensures same { (self.new.bits ≡ self.old.bits) × (self.new.told ≡ self.old.told) }
+        ensures same { (self.new.width ≡ self.old.width) × (self.new.told ≡ self.old.told) }
     {
         take_each(alloc, level, &mut self.items)
     }
@@ -281,7 +281,7 @@ impl Ranges {
         requires { CanLetStay levels.old self.old.parts }
         ensures stay { OnOk result (AllLetStay levels.old levels.new self.old.parts self.new.parts) }
         ensures count { IfOk result (λ count. count ≡ length (all_stay self.new)) }
-        ensures same { (self.new.bits ≡ self.old.bits) × (self.new.told ≡ self.old.told) }
+        ensures same { (self.new.width ≡ self.old.width) × (self.new.told ≡ self.old.told) }
     {
         stop_each(levels, &mut self.items)
     }
@@ -294,10 +294,10 @@ impl Ranges {
         level: u16,
         vertices: &[u32],
     ) -> Result<usize, AllocError>
-        requires { CanLiftOff level levels.old vertices.now self.old.bits self.old.parts }
-        ensures lifted { OnOk result (LiftedOff level levels.old levels.new vertices.now self.old.bits self.old.parts self.new.parts) }
+        requires { CanLiftOff level levels.old vertices.now self.old.width self.old.parts }
+        ensures lifted { OnOk result (LiftedOff level levels.old levels.new vertices.now self.old.width self.old.parts self.new.parts) }
         ensures count { IfOk result (λ count. count ≡ length (all_begun self.new)) }
-        ensures same { (self.new.bits ≡ self.old.bits) × (self.new.told ≡ self.old.told) }
+        ensures same { (self.new.width ≡ self.old.width) × (self.new.told ≡ self.old.told) }
     {
         lift_each(levels, level, vertices, self.layout, &mut self.items)
     }
@@ -319,7 +319,7 @@ impl Ranges {
     pub fn look_anew(&mut self, levels: &RisingLevels, most: u32) -> Result<(), AllocError>
         requires { CanLookAnew levels.now self.old.parts }
         ensures looked { OnOk result (LookedAnew levels.now most self.old.parts self.new.parts) }
-        ensures same { (self.new.bits ≡ self.old.bits) × (self.new.told ≡ self.old.told) }
+        ensures same { (self.new.width ≡ self.old.width) × (self.new.told ≡ self.old.told) }
     {
         look_each(levels, most, &mut self.items)
     }
@@ -347,7 +347,7 @@ impl Ranges {
     /// they are.
     pub fn sharing(&self, count: usize, workers: u32) -> Sharing
         requires { 1 ≤ workers }
-        ensures { result.layout.bits ≡ self.now.bits }
+        ensures { result.layout.width ≡ self.now.width }
     {
         let layout = self.layout;
         let threads = layout.threads(count, workers);
@@ -370,7 +370,7 @@ impl Ranges {
         requires count { count ≡ length (all_stay self.old) }
         ensures parted { OnOk result (AllParted step.now self.old.parts self.new.parts) }
         ensures told { OnOk result (AreToldAll (length self.old.parts) self.new.told) }
-        ensures same { self.new.bits ≡ self.old.bits }
+        ensures same { self.new.width ≡ self.old.width }
     {
         if count == 0 {
             return Ok(());
@@ -391,7 +391,7 @@ impl Ranges {
         requires { CanRiseAll step.now self.old.parts self.old.told }
         ensures risen { OnOk result (AllRisen step.now most self.old.parts self.new.parts) }
         ensures told { OnOk result (AreToldAll (length self.old.parts) self.new.told) }
-        ensures same { self.new.bits ≡ self.old.bits }
+        ensures same { self.new.width ≡ self.old.width }
     {
         let rt = rounds.runtime();
         let items = self.items.as_mut_slice();
@@ -408,7 +408,7 @@ impl Ranges {
         requires { sum_by (λ p. p.steps) self.old.parts < 2 ^ 64 }
         ensures steps { result ≡ sum_by (λ p. p.steps) self.old.parts }
         ensures rest { HaveNoSteps self.old.parts self.new.parts }
-        ensures same { (self.new.bits ≡ self.old.bits) × (self.new.told ≡ self.old.told) }
+        ensures same { (self.new.width ≡ self.old.width) × (self.new.told ≡ self.old.told) }
     {
         steps_of(&mut self.items)
     }

@@ -117,8 +117,8 @@ pub fn collect(items: &mut [Range], told: &mut [Told])
 
 /// Lessens the count of each vertex of the list, once for each time that it is there. Fails only if memory runs out.
 pub fn hear_less_all(layout: Layout, told: &[u32], items: &mut [Range]) -> Result<(), AllocError>
-    requires { CanLessen layout.bits told.now items.old }
-    ensures { OnOk result (HearLess layout.bits told.now items.old items.new) }
+    requires { CanLessen layout.width told.now items.old }
+    ensures { OnOk result (HearLess layout.width told.now items.old items.new) }
 {
     for v in told {
         let range = &mut items[layout.range_of(*v)];
@@ -136,8 +136,8 @@ pub fn hear_more_all(
     told: &[u32],
     items: &mut [Range],
 ) -> Result<(), AllocError>
-    requires { CanMeet layout.bits level told.now items.old }
-    ensures { OnOk result (HearMore layout.bits level most told.now items.old items.new) }
+    requires { CanMeet layout.width level told.now items.old }
+    ensures { OnOk result (HearMore layout.width level most told.now items.old items.new) }
 {
     for v in told {
         let range = &mut items[layout.range_of(*v)];
@@ -154,9 +154,9 @@ pub fn hear_less<R: Threads + Sync>(
     told: &[Told],
     items: &mut [Range],
 ) -> Result<(), AllocError>
-    requires lists { AreTold step.now.bits step.now.is_dealt (length items.old) told.now }
-    requires ready { CanLessen step.now.bits (told_all told.now) items.old }
-    ensures { OnOk result (HearLess step.now.bits (told_all told.now) items.old items.new) }
+    requires lists { AreTold step.now.width step.now.is_dealt (length items.old) told.now }
+    requires ready { CanLessen step.now.width (told_all told.now) items.old }
+    ensures { OnOk result (HearLess step.now.width (told_all told.now) items.old items.new) }
 {
     let layout = step.sharing.layout;
     if step.sharing.is_dealt {
@@ -179,10 +179,10 @@ pub fn hear_more<R: Threads + Sync>(
     told: &[Told],
     items: &mut [Range],
 ) -> Result<(), AllocError>
-    requires lists { AreTold step.now.bits step.now.is_dealt (length items.old) told.now }
-    requires ready { CanMeet step.now.bits (step.now.level + 1) (told_all told.now) items.old }
+    requires lists { AreTold step.now.width step.now.is_dealt (length items.old) told.now }
+    requires ready { CanMeet step.now.width (step.now.level + 1) (told_all told.now) items.old }
     requires few { AreFew items.old }
-    ensures { OnOk result (HearMore step.now.bits (step.now.level + 1) most (told_all told.now) items.old items.new) }
+    ensures { OnOk result (HearMore step.now.width (step.now.level + 1) most (told_all told.now) items.old items.new) }
 {
     let layout = step.sharing.layout;
     let next = step.level + 1;

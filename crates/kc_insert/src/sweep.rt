@@ -118,7 +118,7 @@ impl Sweep {
         requires can { CanLookAnew self.old.levels self.old.ranges.parts }
         ensures levels { OnOk result (self.new.levels ≡ self.old.levels) }
         ensures looked { OnOk result (LookedAnew self.old.levels (high th.now.profile (group_of th.now.profile th.now.vertices self.old.levels.level)) self.old.ranges.parts self.new.ranges.parts) }
-        ensures same { OnOk result ((self.new.ranges.bits ≡ self.old.ranges.bits) × (self.new.ranges.told ≡ self.old.ranges.told)) }
+        ensures same { OnOk result ((self.new.ranges.width ≡ self.old.ranges.width) × (self.new.ranges.told ≡ self.old.ranges.told)) }
     {
         let most = th.high(th.group(self.levels.level));
         self.ranges.look_anew(&self.levels, most)?;

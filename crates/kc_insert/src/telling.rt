@@ -83,8 +83,8 @@ fn put_rising(levels: &RisingLevels, row: &[u32], items: &mut [u32], start: usiz
 
 // Puts each vertex on the list of its range. Fails only if memory runs out.
 fn deal_each(layout: Layout, vertices: &[u32], lists: &mut [ToldList]) -> Result<(), AllocError>
-    requires { All (λ v. range_of layout.bits v < length lists.old) vertices.now }
-    ensures { OnOk result (AreDealt layout.bits vertices.now lists.old lists.new) }
+    requires { All (λ v. range_of layout.width v < length lists.old) vertices.now }
+    ensures { OnOk result (AreDealt layout.width vertices.now lists.old lists.new) }
 {
     for v in vertices {
         let list = &mut lists[layout.range_of(*v)];
@@ -150,9 +150,9 @@ impl Told {
 
     /// Cuts the list of all by range. Fails only if memory runs out.
     pub fn deal(&mut self, layout: Layout) -> Result<(), AllocError>
-        requires { All (λ v. range_of layout.bits v < length self.old.lists) self.old.all }
+        requires { All (λ v. range_of layout.width v < length self.old.lists) self.old.all }
         ensures same { OnOk result (self.new.all ≡ self.old.all) }
-        ensures dealt { OnOk result (AreDealtAnew layout.bits self.old self.new) }
+        ensures dealt { OnOk result (AreDealtAnew layout.width self.old self.new) }
     {
         self.clear_lists();
         deal_each(layout, &self.all[..self.count], &mut self.lists)?;

@@ -253,19 +253,19 @@ fn batches_rise_as_by_recounting(rt: HostRuntime) {
     }
 }
 
-// Ranges of 1, 2 and 8 vertices, and from how many vertices on threads share a pass.
-const LAYOUTS: [(u32, usize); 4] = [(0, 9), (1, 5), (3, 1), (3, 5)];
+// Ranges of 1, 2, 5 and 8 vertices, and from how many vertices on threads share a pass.
+const LAYOUTS: [(u32, usize); 4] = [(1, 9), (2, 5), (5, 1), (8, 5)];
 
 #[test]
 fn ranges_rise_as_by_recounting(rt: HostRuntime) {
     let mut random = Random::new(2);
     for round in 0..2u32 {
-        for (bits, least_shared) in LAYOUTS {
+        for (width, least_shared) in LAYOUTS {
             let n = 8 + random.below(16);
             let pairs = drawn_pairs(&rt, rt.alloc(), &mut random, n, 1 + round, n);
             let batches = dealt(&rt, rt.alloc(), &mut random, &pairs, 3);
             for workers in WORKERS {
-                let layout = Layout::new(bits, least_shared);
+                let layout = Layout::new(width, least_shared);
                 let mut adj = empty(&rt, rt.alloc(), n);
                 let batches = batches.parts();
                 come_in_cut(

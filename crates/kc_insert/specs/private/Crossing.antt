@@ -12,7 +12,7 @@ use Rattle.kc_insert.specs.Ranges.{Watch}
 pub record Crossing : Type 0 where
   pub graph : GraphShape
   pub levels : RisingLevels
-  pub bits : ℕ
+  pub width : ℕ
   pub level : ℕ
   pub is_dealt : Bool
 

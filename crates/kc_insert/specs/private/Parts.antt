@@ -51,7 +51,7 @@ pub record CanRise (step : Crossing) (old : Part) : Type 0 where
   pub steps : old.steps < 2 ^ 63
   pub levels : step.level + 1 < length old.meetings
   pub places : (w : ℕ) → is_above step w ≡ true → get_or step.levels.stored w 0 < length old.meetings
-  pub ranges : (v : ℕ) → v < step.graph.vertices → range_of step.bits v < length old.tell.lists
+  pub ranges : (v : ℕ) → v < step.graph.vertices → range_of step.width v < length old.tell.lists
 
 -- the vertices that begin are to meet all above them, and count afresh. Each other vertex counts one less for each
 -- meeting at which it goes on and the other stays.
@@ -70,7 +70,7 @@ pub record HasRisen (step : Crossing) (old new : Part) : Type 0 where
   pub part : new ≡ risen_part step old new
   pub told : new.tell.all ≡ met_by step (get_or old.meetings (step.level + 1) []) ++ flat_map (next_near step) old.begun
   pub lists : length new.tell.lists ≡ length old.tell.lists
-  pub dealt : step.is_dealt ≡ true → AreDealtAnew step.bits old.tell new.tell
+  pub dealt : step.is_dealt ≡ true → AreDealtAnew step.width old.tell new.tell
   pub risen : HaveRisen step old new
 
 -- what `Range::part` asks: the vertices are of the graph, and there is room
@@ -78,14 +78,14 @@ pub record CanPart (step : Crossing) (old : Part) : Type 0 where
   pub vertices : (v : ℕ) → has_number v old.stay ≡ true → v < step.graph.vertices
   pub few : length old.stay ≤ 2 ^ 24
   pub steps : old.steps < 2 ^ 63
-  pub ranges : (v : ℕ) → v < step.graph.vertices → range_of step.bits v < length old.tell.lists
+  pub ranges : (v : ℕ) → v < step.graph.vertices → range_of step.width v < length old.tell.lists
 
 -- what `Range::part` tells
 pub record HasParted (step : Crossing) (old new : Part) : Type 0 where
   pub part : new ≡ record old { tell = new.tell; steps = old.steps + degrees step.graph old.stay }
   pub told : new.tell.all ≡ flat_map (rising_near step) old.stay
   pub lists : length new.tell.lists ≡ length old.tell.lists
-  pub dealt : step.is_dealt ≡ true → AreDealtAnew step.bits old.tell new.tell
+  pub dealt : step.is_dealt ≡ true → AreDealtAnew step.width old.tell new.tell
 
 -- what a range that hears asks: all lists have its place, what it hears is of its vertices, and there is room
 pub record CanHearLess (told : List Tell) (own : ℕ) (old : Part) : Type 0 where

@@ -18,7 +18,7 @@ is_over count most v = nat_lt most (count v)
 
 -- the ranges, with `count` as the count of v
 abbrev pub with_count : Cut → ℕ → ℕ → Cut
-with_count r v count = record r { parts = set r.parts (range_of r.bits v) (record (part_of r v) { watch = record (part_of r v).watch { counts = set (part_of r v).watch.counts (v - (part_of r v).watch.first) count } }) }
+with_count r v count = record r { parts = set r.parts (range_of r.width v) (record (part_of r v) { watch = record (part_of r v).watch { counts = set (part_of r v).watch.counts (v - (part_of r v).watch.first) count } }) }
 
 -- what `can` says holds of each range and its place
 abbrev pub EachCan : (ℕ → Part → Type 0) → List Part → Type 0
@@ -74,22 +74,22 @@ pub record AllLetStay (before after : RisingLevels) (old new : List Part) : Type
 
 -- what `Ranges::lift_off` asks: the sweep is at the next level, all the vertices are on the level and in ranges, and
 -- none has begun
-pub record CanLiftOff (level : ℕ) (levels : RisingLevels) (vertices : List ℕ) (bits : ℕ) (old : List Part) : Type 0 where
+pub record CanLiftOff (level : ℕ) (levels : RisingLevels) (vertices : List ℕ) (width : ℕ) (old : List Part) : Type 0 where
   pub at : levels.level ≡ level + 1
   pub below : (v : ℕ) → has_number v vertices ≡ true → v < length (seen levels)
   pub here : (v : ℕ) → has_number v vertices ≡ true → get_or (seen levels) v 0 ≡ level
-  pub place : (v : ℕ) → has_number v vertices ≡ true → range_of bits v < length old
+  pub place : (v : ℕ) → has_number v vertices ≡ true → range_of width v < length old
   pub none : (j : ℕ) (d : Part) → j < length old → (get_or old j d).begun ≡ []
 
 -- what `Ranges::lift_off` leaves: the vertices of the list have begun, each once and in its own range, and are on the
 -- next level
-pub record LiftedOff (level : ℕ) (before after : RisingLevels) (vertices : List ℕ) (bits : ℕ) (old new : List Part) : Type 0 where
+pub record LiftedOff (level : ℕ) (before after : RisingLevels) (vertices : List ℕ) (width : ℕ) (old new : List Part) : Type 0 where
   pub on : after.level ≡ before.level
   pub levels : seen after ≡ all_at (seen before) (flat_map (λ (p : Part). p.begun) new) (level + 1)
   pub rising : (v : ℕ) → rises after v ≡ (rises before v || has_number v (flat_map (λ (p : Part). p.begun) new))
   pub sized : length new ≡ length old
   pub each : (j : ℕ) (d : Part) → j < length old → get_or new j d ≡ record (get_or old j d) { begun = (get_or new j d).begun }
-  pub own : (j v : ℕ) (d : Part) → j < length old → has_number v (get_or new j d).begun ≡ true → range_of bits v ≡ j
+  pub own : (j v : ℕ) (d : Part) → j < length old → has_number v (get_or new j d).begun ≡ true → range_of width v ≡ j
   pub begun : (v : ℕ) → has_number v (flat_map (λ (p : Part). p.begun) new) ≡ has_number v vertices
   pub distinct : AreDistinct (flat_map (λ (p : Part). p.begun) new)
 
@@ -112,7 +112,7 @@ pub record LookedAnew (levels : RisingLevels) (most : ℕ) (old new : List Part)
 
 -- but for what the vertices count, and which of them wait, all is as before
 pub record IsSameCut (old new : Cut) : Type 0 where
-  pub bits : new.bits ≡ old.bits
+  pub width : new.width ≡ old.width
   pub told : new.told ≡ old.told
   pub sized : length new.parts ≡ length old.parts
   pub each : (j : ℕ) (d : Part) → j < length old.parts → get_or new.parts j d ≡ record (get_or old.parts j d) { watch = record (get_or old.parts j d).watch { counts = (get_or new.parts j d).watch.counts }; queue = (get_or new.parts j d).queue }
@@ -124,8 +124,8 @@ abbrev pub new_part : ℕ → ℕ → ℕ → List ℕ → Part
 new_part levels ranges first counts = record { watch = record { first = first; counts = counts; most = 0; doubtful = [] }; queue = replicate levels []; meetings = replicate levels []; began = []; risen = []; stay = []; begun = []; tell = record { all = []; lists = replicate ranges [] }; steps = 0; is_short = false }
 
 -- what `Ranges::new` leaves: the vertices, with these counts, are cut, and none of them rises or waits
-pub record AreNew (bits : ℕ) (counts : List ℕ) (levels : ℕ) (new : Cut) : Type 0 where
-  pub shape : new.bits ≡ bits
+pub record AreNew (width : ℕ) (counts : List ℕ) (levels : ℕ) (new : Cut) : Type 0 where
+  pub shape : new.width ≡ width
   pub cut : IsCut (length counts) levels new
   pub counted : (v : ℕ) → v < length counts → count_of new v ≡ get_or counts v 0
   pub each : (j : ℕ) (d : Part) → j < length new.parts → get_or new.parts j d ≡ new_part levels (length new.parts) (get_or new.parts j d).watch.first (get_or new.parts j d).watch.counts
@@ -141,7 +141,7 @@ forgotten p = record p { began = []; risen = []; queue = replicate (length p.que
 
 -- what `Ranges::forget` leaves: nothing of the phase
 pub record Forgot (old new : Cut) : Type 0 where
-  pub bits : new.bits ≡ old.bits
+  pub width : new.width ≡ old.width
   pub told : new.told ≡ old.told
   pub sized : length new.parts ≡ length old.parts
   pub each : (j : ℕ) (d : Part) → j < length old.parts → get_or new.parts j d ≡ forgotten (get_or old.parts j d)

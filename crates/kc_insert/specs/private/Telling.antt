@@ -5,7 +5,7 @@ use Rattle.kc_insert.specs.Ranges.{range_of, Tell}
 
 -- those of the list that are in the range
 abbrev pub in_range : ℕ → ℕ → List ℕ → List ℕ
-in_range bits j xs = filter (λ v. range_of bits v == j) xs
+in_range width j xs = filter (λ v. range_of width v == j) xs
 
 -- how often v is in the list
 abbrev pub times : ℕ → List ℕ → ℕ
@@ -17,11 +17,11 @@ abbrev pub heard_by : ℕ → List Tell → List ℕ
 heard_by j told = flat_map (λ t. get_or t.lists j []) told
 
 -- each range has its vertices of the list after those that it had
-pub record AreDealt (bits : ℕ) (xs : List ℕ) (old new : List (List ℕ)) : Type 0 where
+pub record AreDealt (width : ℕ) (xs : List ℕ) (old new : List (List ℕ)) : Type 0 where
   pub sized : length new ≡ length old
-  pub each : (j : ℕ) → j < length old → get_or new j [] ≡ get_or old j [] ++ in_range bits j xs
+  pub each : (j : ℕ) → j < length old → get_or new j [] ≡ get_or old j [] ++ in_range width j xs
 
 -- each range has its vertices of all that is told
-pub record AreDealtAnew (bits : ℕ) (old new : Tell) : Type 0 where
+pub record AreDealtAnew (width : ℕ) (old new : Tell) : Type 0 where
   pub sized : length new.lists ≡ length old.lists
-  pub each : (j : ℕ) → j < length old.lists → get_or new.lists j [] ≡ in_range bits j new.all
+  pub each : (j : ℕ) → j < length old.lists → get_or new.lists j [] ≡ in_range width j new.all

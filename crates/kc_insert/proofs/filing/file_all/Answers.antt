@@ -14,6 +14,6 @@ pub returns : goal.returns
 returns g c =
     let before = c.deref_mut.ensures.value ∙ ap (λ (r : Cut). r.parts) c.ranges-2.view_is in
     let after = with_items_is c.ranges-2.inside.items c.follow_all.new.items (omega (arith, c.in_ok-follow_all.ensures.0, c.deref_mut.ensures.len)) in
-    all_filed c.args.fresh.now.profile c.args.fresh.now.vertices c.args.fresh.now.levels c.args.fresh.now.counts c.args.ranges.now _ c.requires.can (ap (λ (r : Cut). r.bits) c.ranges-2.view_is) (ap (λ (r : Cut). r.told) c.ranges-2.view_is) (ap length after ∙ c.in_ok-follow_all.ensures.0 ∙ ap length before) (λ j d h.
+    all_filed c.args.fresh.now.profile c.args.fresh.now.vertices c.args.fresh.now.levels c.args.fresh.now.counts c.args.ranges.now _ c.requires.can (ap (λ (r : Cut). r.width) c.ranges-2.view_is) (ap (λ (r : Cut). r.told) c.ranges-2.view_is) (ap length after ∙ c.in_ok-follow_all.ensures.0 ∙ ap length before) (λ j d h.
     subst (λ (ps : List Part). HasFiled c.args.fresh.now.profile c.args.fresh.now.vertices c.args.fresh.now.levels c.args.fresh.now.counts (get_or c.args.ranges.now.parts j d) (get_or ps j d)) (sym after)
     (subst (λ (ps : List Part). HasFiled c.args.fresh.now.profile c.args.fresh.now.vertices c.args.fresh.now.levels c.args.fresh.now.counts (get_or ps j d) (get_or c.follow_all.new.items j d)) before (c.in_ok-follow_all.ensures.1 j d (omega (arith, h, ap length before)))))

@@ -7,7 +7,7 @@ use Rattle.kc_insert.proofs.Shared.{hear_first}
 use Rattle.kc_insert.proofs.sharing.hear_less_all.Goals as goal
 
 pub loop-v-init : goal.loop-v-init
-loop-v-init c = hear_first c.args.layout.bits c.args.items.now
+loop-v-init c = hear_first c.args.layout.width c.args.items.now
 
 pub bounds-items-range_of : goal.bounds-items-range_of
 bounds-items-range_of c =
@@ -20,8 +20,8 @@ lessen-requires-clause-vertex c =
     let v = get_or c.args.told.now c.loop-v.v-index 0 in
     let d = c.index-items-range_of.result in
     let was = c.requires.held v d (has_number_at _ c.args.told.now c.loop-v.v-index (omega arith) refl) in
-    let here : c.range.inside.watched ≡ (get_or c.loop-v.items (range_of c.args.layout.bits (get_or c.args.told.now c.loop-v.v-index 0)) c.index-items-range_of.result).watch = ap (λ (p : Part). p.watch) c.range.view_is ∙ ap (λ k. (get_or c.loop-v.items k c.index-items-range_of.result).watch) c.range_of.ensures in
-    rw here (heard_held _ v _ _ was.1 (c.loop-v.invariant.each (range_of c.args.layout.bits v) d was.0))
+    let here : c.range.inside.watched ≡ (get_or c.loop-v.items (range_of c.args.layout.width (get_or c.args.told.now c.loop-v.v-index 0)) c.index-items-range_of.result).watch = ap (λ (p : Part). p.watch) c.range.view_is ∙ ap (λ k. (get_or c.loop-v.items k c.index-items-range_of.result).watch) c.range_of.ensures in
+    rw here (heard_held _ v _ _ was.1 (c.loop-v.invariant.each (range_of c.args.layout.width v) d was.0))
 
 pub lessen-requires-clause-some : goal.lessen-requires-clause-some
 lessen-requires-clause-some c =
@@ -29,8 +29,8 @@ lessen-requires-clause-some c =
     let d = c.index-items-range_of.result in
     let there = has_number_at _ c.args.told.now c.loop-v.v-index (omega arith) refl in
     let was = c.requires.held v d there in
-    let here : c.range.inside.watched ≡ (get_or c.loop-v.items (range_of c.args.layout.bits (get_or c.args.told.now c.loop-v.v-index 0)) c.index-items-range_of.result).watch = ap (λ (p : Part). p.watch) c.range.view_is ∙ ap (λ k. (get_or c.loop-v.items k c.index-items-range_of.result).watch) c.range_of.ensures in
-    rw here (heard_some _ v _ _ was.1 (c.loop-v.invariant.each (range_of c.args.layout.bits v) d was.0) (times v c.args.told.now) (in_times c.args.layout.bits c.loop-v.v-index c.args.told.now (omega arith)) (c.requires.enough v d there))
+    let here : c.range.inside.watched ≡ (get_or c.loop-v.items (range_of c.args.layout.width (get_or c.args.told.now c.loop-v.v-index 0)) c.index-items-range_of.result).watch = ap (λ (p : Part). p.watch) c.range.view_is ∙ ap (λ k. (get_or c.loop-v.items k c.index-items-range_of.result).watch) c.range_of.ensures in
+    rw here (heard_some _ v _ _ was.1 (c.loop-v.invariant.each (range_of c.args.layout.width v) d was.0) (times v c.args.told.now) (in_times c.args.layout.width c.loop-v.v-index c.args.told.now (omega arith)) (c.requires.enough v d there))
 
 pub loop-v-preserved : goal.loop-v-preserved
 loop-v-preserved c =
@@ -38,9 +38,9 @@ loop-v-preserved c =
     let d = c.index-items-range_of.result in
     let there = has_number_at _ c.args.told.now c.loop-v.v-index (omega arith) refl in
     let was = c.requires.held v d there in
-    let here : c.range.inside.watched ≡ (get_or c.loop-v.items (range_of c.args.layout.bits (get_or c.args.told.now c.loop-v.v-index 0)) c.index-items-range_of.result).watch = ap (λ (p : Part). p.watch) c.range.view_is ∙ ap (λ k. (get_or c.loop-v.items k c.index-items-range_of.result).watch) c.range_of.ensures in
-    let s = c.loop-v.invariant.each (range_of c.args.layout.bits v) d was.0 in
-    rw c.range_of.ensures (hear_next c.args.layout.bits c.loop-v.v-index c.args.told.now c.args.items.now c.loop-v.items (omega arith) was.0 c.loop-v.invariant d _
-    (heard_one _ v _ _ was.1 s c.lessen.new.self _ (heard_some _ v _ _ was.1 s (times v c.args.told.now) (in_times c.args.layout.bits c.loop-v.v-index c.args.told.now (omega arith)) (c.requires.enough v d there))
+    let here : c.range.inside.watched ≡ (get_or c.loop-v.items (range_of c.args.layout.width (get_or c.args.told.now c.loop-v.v-index 0)) c.index-items-range_of.result).watch = ap (λ (p : Part). p.watch) c.range.view_is ∙ ap (λ k. (get_or c.loop-v.items k c.index-items-range_of.result).watch) c.range_of.ensures in
+    let s = c.loop-v.invariant.each (range_of c.args.layout.width v) d was.0 in
+    rw c.range_of.ensures (hear_next c.args.layout.width c.loop-v.v-index c.args.told.now c.args.items.now c.loop-v.items (omega arith) was.0 c.loop-v.invariant d _
+    (heard_one _ v _ _ was.1 s c.lessen.new.self _ (heard_some _ v _ _ was.1 s (times v c.args.told.now) (in_times c.args.layout.width c.loop-v.v-index c.args.told.now (omega arith)) (c.requires.enough v d there))
     (ap (λ (p : Part). record p { watch = c.lessen.new.self }) (c.range.view_is ∙ ap (λ k. get_or c.loop-v.items k c.index-items-range_of.result) c.range_of.ensures))
     (rw here at c.in_ok-lessen.ensures.counts) (rw here at c.in_ok-lessen.ensures.watched)))

@@ -8,7 +8,7 @@ use Rattle.kc_insert.proofs.Shared.{meet_first}
 use Rattle.kc_insert.proofs.sharing.hear_more_all.Goals as goal
 
 pub loop-v-init : goal.loop-v-init
-loop-v-init c = meet_first c.args.layout.bits c.args.level c.args.most c.args.items.now
+loop-v-init c = meet_first c.args.layout.width c.args.level c.args.most c.args.items.now
 
 pub bounds-items-range_of : goal.bounds-items-range_of
 bounds-items-range_of c =
@@ -21,7 +21,7 @@ meet-requires-clause-vertex c =
     let v = get_or c.args.told.now c.loop-v.v-index 0 in
     let d = c.index-items-range_of.result in
     let was = c.requires.held v d (has_number_at _ c.args.told.now c.loop-v.v-index (omega arith) refl) in
-    rw c.range_of.ensures (met_still c.args.level c.args.most _ v _ _ was.1 (c.loop-v.invariant.each (range_of c.args.layout.bits v) d was.0))
+    rw c.range_of.ensures (met_still c.args.level c.args.most _ v _ _ was.1 (c.loop-v.invariant.each (range_of c.args.layout.width v) d was.0))
 
 pub meet-requires-clause-small : goal.meet-requires-clause-small
 meet-requires-clause-small c =
@@ -29,20 +29,20 @@ meet-requires-clause-small c =
     let d = c.index-items-range_of.result in
     let there = has_number_at _ c.args.told.now c.loop-v.v-index (omega arith) refl in
     let was = c.requires.held v d there in
-    rw c.range_of.ensures (met_less c.args.level c.args.most _ v _ _ was.1 (c.loop-v.invariant.each (range_of c.args.layout.bits v) d was.0) (times v c.args.told.now) 2147483648 (in_times c.args.layout.bits c.loop-v.v-index c.args.told.now (omega arith)) (c.requires.small v d there))
+    rw c.range_of.ensures (met_less c.args.level c.args.most _ v _ _ was.1 (c.loop-v.invariant.each (range_of c.args.layout.width v) d was.0) (times v c.args.told.now) 2147483648 (in_times c.args.layout.width c.loop-v.v-index c.args.told.now (omega arith)) (c.requires.small v d there))
 
 pub meet-requires-clause-room : goal.meet-requires-clause-room
 meet-requires-clause-room c =
     let v = get_or c.args.told.now c.loop-v.v-index 0 in
     let d = c.index-items-range_of.result in
     let was = c.requires.held v d (has_number_at _ c.args.told.now c.loop-v.v-index (omega arith) refl) in
-    rw c.range_of.ensures (omega (arith, c.requires.room (range_of c.args.layout.bits v) d was.0, (c.loop-v.invariant.each (range_of c.args.layout.bits v) d was.0).levels))
+    rw c.range_of.ensures (omega (arith, c.requires.room (range_of c.args.layout.width v) d was.0, (c.loop-v.invariant.each (range_of c.args.layout.width v) d was.0).levels))
 
 pub loop-v-preserved : goal.loop-v-preserved
 loop-v-preserved c =
     let v = get_or c.args.told.now c.loop-v.v-index 0 in
     let d = c.index-items-range_of.result in
     let was = c.requires.held v d (has_number_at _ c.args.told.now c.loop-v.v-index (omega arith) refl) in
-    let s = c.loop-v.invariant.each (range_of c.args.layout.bits v) d was.0 in
-    rw c.range_of.ensures (meet_next c.args.layout.bits c.args.level c.args.most c.loop-v.v-index c.args.told.now c.args.items.now c.loop-v.items (omega arith) was.0 c.loop-v.invariant d c.meet.new.self
-    (met_one c.args.level c.args.most v _ c.meet.new.self (met_still c.args.level c.args.most _ v _ _ was.1 s) (omega (arith, c.requires.room (range_of c.args.layout.bits v) d was.0, s.levels)) (rw c.range_of.ensures at c.in_ok-meet.ensures)))
+    let s = c.loop-v.invariant.each (range_of c.args.layout.width v) d was.0 in
+    rw c.range_of.ensures (meet_next c.args.layout.width c.args.level c.args.most c.loop-v.v-index c.args.told.now c.args.items.now c.loop-v.items (omega arith) was.0 c.loop-v.invariant d c.meet.new.self
+    (met_one c.args.level c.args.most v _ c.meet.new.self (met_still c.args.level c.args.most _ v _ _ was.1 s) (omega (arith, c.requires.room (range_of c.args.layout.width v) d was.0, s.levels)) (rw c.range_of.ensures at c.in_ok-meet.ensures)))

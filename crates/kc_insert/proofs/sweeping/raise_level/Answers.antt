@@ -46,70 +46,70 @@ pub part-requires-clause-ready : goal.part-requires-clause-ready
 part-requires-clause-ready g c κs within =
     let known = level_is c.args.scaled.th.now.profile c.args.scaled.th.now.vertices c.args.scaled.graph.now.vertices c.args.sweep.now.levels.level c.high-most.result c.group.result c.args.sweep.now.ranges c.args.scaled.scale c.high-most.ensures.value c.group.ensures.value c.requires.limit c.requires.room c.group.ensures.small in
     let movers : c.in_ok-starting.starting.items ≡ filter (is_over (count_of c.take_waiting.new.self) c.high-most.result) (waits c.args.sweep.now.ranges c.args.sweep.now.levels.level) = begin_from (count_of c.take_waiting.new.self) c.high-most.result c.deref.result.now c.in_ok-waiting.waiting.items (waits c.args.sweep.now.ranges c.args.sweep.now.levels.level) c.in_ok-starting.starting.items c.in_ok-starting.starting.items refl c.in_ok-starting.ensures c.deref.ensures.value c.in_ok-waiting.ensures.waiting in
-    let parting : c.new-parting.result ≡ step_at c.args.scaled.graph.now c.let_stay.new.levels c.let_stay.new.self.bits c.args.sweep.now.levels.level c.sharing-sharing.result.is_dealt = c.new-parting.ensures ∙ ap (λ b. step_at c.args.scaled.graph.now c.let_stay.new.levels b c.args.sweep.now.levels.level c.sharing-sharing.result.is_dealt) c.sharing-sharing.ensures in
+    let parting : c.new-parting.result ≡ step_at c.args.scaled.graph.now c.let_stay.new.levels c.let_stay.new.self.width c.args.sweep.now.levels.level c.sharing-sharing.result.is_dealt = c.new-parting.ensures ∙ ap (λ b. step_at c.args.scaled.graph.now c.let_stay.new.levels b c.args.sweep.now.levels.level c.sharing-sharing.result.is_dealt) c.sharing-sharing.ensures in
     subst (λ k. CanPartAll k c.let_stay.new.self.parts c.let_stay.new.self.told) (sym parting) (call_part c.args.scaled.th.now.profile c.args.scaled.graph.now c.requires.running.start c.args.sweep.now.levels c.args.sweep.now.ranges c.high-most.result c.requires.running.order known.1 c.requires.running.sweeping known.0 c.vertices-n.ensures.graph c.vertices-n.ensures.small known.2 known.3 c.take_waiting.new.self c.in_ok-waiting.ensures.took c.in_ok-waiting.ensures.same c.in_ok-starting.starting.items movers c.let_stay.new.levels c.let_stay.new.self c.in_ok-staying.ensures.stay c.in_ok-staying.ensures.same c.sharing-sharing.result.is_dealt)
 
 pub lift_off-requires : goal.lift_off-requires
 lift_off-requires g c =
     let known = level_is c.args.scaled.th.now.profile c.args.scaled.th.now.vertices c.args.scaled.graph.now.vertices c.args.sweep.now.levels.level c.high-most.result c.group.result c.args.sweep.now.ranges c.args.scaled.scale c.high-most.ensures.value c.group.ensures.value c.requires.limit c.requires.room c.group.ensures.small in
     let movers : c.deref-2.result.now ≡ filter (is_over (count_of c.take_waiting.new.self) c.high-most.result) (waits c.args.sweep.now.ranges c.args.sweep.now.levels.level) = begin_from (count_of c.take_waiting.new.self) c.high-most.result c.deref.result.now c.in_ok-waiting.waiting.items (waits c.args.sweep.now.ranges c.args.sweep.now.levels.level) c.in_ok-starting.starting.items c.deref-2.result.now c.deref-2.ensures.value c.in_ok-starting.ensures c.deref.ensures.value c.in_ok-waiting.ensures.waiting in
-    let parted : AllParted (step_at c.args.scaled.graph.now c.let_stay.new.levels c.let_stay.new.self.bits c.args.sweep.now.levels.level c.sharing-sharing.result.is_dealt) c.let_stay.new.self.parts c.part.new.self.parts = subst (λ k. AllParted k c.let_stay.new.self.parts c.part.new.self.parts) (c.new-parting.ensures ∙ ap (λ b. step_at c.args.scaled.graph.now c.let_stay.new.levels b c.args.sweep.now.levels.level c.sharing-sharing.result.is_dealt) c.sharing-sharing.ensures) c.in_ok-part.ensures.parted in
+    let parted : AllParted (step_at c.args.scaled.graph.now c.let_stay.new.levels c.let_stay.new.self.width c.args.sweep.now.levels.level c.sharing-sharing.result.is_dealt) c.let_stay.new.self.parts c.part.new.self.parts = subst (λ k. AllParted k c.let_stay.new.self.parts c.part.new.self.parts) (c.new-parting.ensures ∙ ap (λ b. step_at c.args.scaled.graph.now c.let_stay.new.levels b c.args.sweep.now.levels.level c.sharing-sharing.result.is_dealt) c.sharing-sharing.ensures) c.in_ok-part.ensures.parted in
     call_lift c.args.scaled.th.now.profile c.args.scaled.graph.now c.requires.running.start c.args.sweep.now.levels c.args.sweep.now.ranges c.high-most.result c.requires.running.order known.1 c.requires.running.sweeping known.0 c.vertices-n.ensures.graph c.vertices-n.ensures.small known.2 known.3 c.take_waiting.new.self c.in_ok-waiting.ensures.took c.in_ok-waiting.ensures.same c.deref-2.result.now movers c.let_stay.new.levels c.let_stay.new.self c.in_ok-staying.ensures.stay c.in_ok-staying.ensures.same c.sharing-sharing.result.is_dealt c.part.new.self parted c.in_ok-part.ensures.told c.in_ok-part.ensures.same c.go_to.new.self c.go_to.ensures.level c.go_to.ensures.seen c.go_to.ensures.rises
 
 pub meeting_count-requires : goal.meeting_count-requires
 meeting_count-requires g c =
     let known = level_is c.args.scaled.th.now.profile c.args.scaled.th.now.vertices c.args.scaled.graph.now.vertices c.args.sweep.now.levels.level c.high-most.result c.group.result c.args.sweep.now.ranges c.args.scaled.scale c.high-most.ensures.value c.group.ensures.value c.requires.limit c.requires.room c.group.ensures.small in
     let movers : c.deref-2.result.now ≡ filter (is_over (count_of c.take_waiting.new.self) c.high-most.result) (waits c.args.sweep.now.ranges c.args.sweep.now.levels.level) = begin_from (count_of c.take_waiting.new.self) c.high-most.result c.deref.result.now c.in_ok-waiting.waiting.items (waits c.args.sweep.now.ranges c.args.sweep.now.levels.level) c.in_ok-starting.starting.items c.deref-2.result.now c.deref-2.ensures.value c.in_ok-starting.ensures c.deref.ensures.value c.in_ok-waiting.ensures.waiting in
-    let parted : AllParted (step_at c.args.scaled.graph.now c.let_stay.new.levels c.let_stay.new.self.bits c.args.sweep.now.levels.level c.sharing-sharing.result.is_dealt) c.let_stay.new.self.parts c.part.new.self.parts = subst (λ k. AllParted k c.let_stay.new.self.parts c.part.new.self.parts) (c.new-parting.ensures ∙ ap (λ b. step_at c.args.scaled.graph.now c.let_stay.new.levels b c.args.sweep.now.levels.level c.sharing-sharing.result.is_dealt) c.sharing-sharing.ensures) c.in_ok-part.ensures.parted in
+    let parted : AllParted (step_at c.args.scaled.graph.now c.let_stay.new.levels c.let_stay.new.self.width c.args.sweep.now.levels.level c.sharing-sharing.result.is_dealt) c.let_stay.new.self.parts c.part.new.self.parts = subst (λ k. AllParted k c.let_stay.new.self.parts c.part.new.self.parts) (c.new-parting.ensures ∙ ap (λ b. step_at c.args.scaled.graph.now c.let_stay.new.levels b c.args.sweep.now.levels.level c.sharing-sharing.result.is_dealt) c.sharing-sharing.ensures) c.in_ok-part.ensures.parted in
     call_meetings c.args.scaled.th.now.profile c.args.scaled.graph.now c.requires.running.start c.args.sweep.now.levels c.args.sweep.now.ranges c.high-most.result c.requires.running.order known.1 c.requires.running.sweeping known.0 c.vertices-n.ensures.graph c.vertices-n.ensures.small known.2 known.3 c.take_waiting.new.self c.in_ok-waiting.ensures.took c.in_ok-waiting.ensures.same c.deref-2.result.now movers c.let_stay.new.levels c.let_stay.new.self c.in_ok-staying.ensures.stay c.in_ok-staying.ensures.same c.sharing-sharing.result.is_dealt c.part.new.self parted c.in_ok-part.ensures.told c.in_ok-part.ensures.same c.go_to.new.self c.go_to.ensures.level c.go_to.ensures.seen c.go_to.ensures.rises c.lift_off.new.levels c.lift_off.new.self c.in_ok-begun.ensures.lifted c.in_ok-begun.ensures.same c.args.sweep.now.levels.level (omega arith)
 
 pub meeting_count-requires-2 : goal.meeting_count-requires-2
 meeting_count-requires-2 g c =
     let known = level_is c.args.scaled.th.now.profile c.args.scaled.th.now.vertices c.args.scaled.graph.now.vertices c.args.sweep.now.levels.level c.high-most.result c.group.result c.args.sweep.now.ranges c.args.scaled.scale c.high-most.ensures.value c.group.ensures.value c.requires.limit c.requires.room c.group.ensures.small in
     let movers : c.deref-2.result.now ≡ filter (is_over (count_of c.take_waiting.new.self) c.high-most.result) (waits c.args.sweep.now.ranges c.args.sweep.now.levels.level) = begin_from (count_of c.take_waiting.new.self) c.high-most.result c.deref.result.now c.in_ok-waiting.waiting.items (waits c.args.sweep.now.ranges c.args.sweep.now.levels.level) c.in_ok-starting.starting.items c.deref-2.result.now c.deref-2.ensures.value c.in_ok-starting.ensures c.deref.ensures.value c.in_ok-waiting.ensures.waiting in
-    let parted : AllParted (step_at c.args.scaled.graph.now c.let_stay.new.levels c.let_stay.new.self.bits c.args.sweep.now.levels.level c.sharing-sharing.result.is_dealt) c.let_stay.new.self.parts c.part.new.self.parts = subst (λ k. AllParted k c.let_stay.new.self.parts c.part.new.self.parts) (c.new-parting.ensures ∙ ap (λ b. step_at c.args.scaled.graph.now c.let_stay.new.levels b c.args.sweep.now.levels.level c.sharing-sharing.result.is_dealt) c.sharing-sharing.ensures) c.in_ok-part.ensures.parted in
+    let parted : AllParted (step_at c.args.scaled.graph.now c.let_stay.new.levels c.let_stay.new.self.width c.args.sweep.now.levels.level c.sharing-sharing.result.is_dealt) c.let_stay.new.self.parts c.part.new.self.parts = subst (λ k. AllParted k c.let_stay.new.self.parts c.part.new.self.parts) (c.new-parting.ensures ∙ ap (λ b. step_at c.args.scaled.graph.now c.let_stay.new.levels b c.args.sweep.now.levels.level c.sharing-sharing.result.is_dealt) c.sharing-sharing.ensures) c.in_ok-part.ensures.parted in
     call_meetings c.args.scaled.th.now.profile c.args.scaled.graph.now c.requires.running.start c.args.sweep.now.levels c.args.sweep.now.ranges c.high-most.result c.requires.running.order known.1 c.requires.running.sweeping known.0 c.vertices-n.ensures.graph c.vertices-n.ensures.small known.2 known.3 c.take_waiting.new.self c.in_ok-waiting.ensures.took c.in_ok-waiting.ensures.same c.deref-2.result.now movers c.let_stay.new.levels c.let_stay.new.self c.in_ok-staying.ensures.stay c.in_ok-staying.ensures.same c.sharing-sharing.result.is_dealt c.part.new.self parted c.in_ok-part.ensures.told c.in_ok-part.ensures.same c.go_to.new.self c.go_to.ensures.level c.go_to.ensures.seen c.go_to.ensures.rises c.lift_off.new.levels c.lift_off.new.self c.in_ok-begun.ensures.lifted c.in_ok-begun.ensures.same (c.args.sweep.now.levels.level + 1) (omega arith)
 
 pub new-rising-requires-clause-sized : goal.new-rising-requires-clause-sized
 new-rising-requires-clause-sized g c =
     let known = level_is c.args.scaled.th.now.profile c.args.scaled.th.now.vertices c.args.scaled.graph.now.vertices c.args.sweep.now.levels.level c.high-most.result c.group.result c.args.sweep.now.ranges c.args.scaled.scale c.high-most.ensures.value c.group.ensures.value c.requires.limit c.requires.room c.group.ensures.small in
     let movers : c.deref-2.result.now ≡ filter (is_over (count_of c.take_waiting.new.self) c.high-most.result) (waits c.args.sweep.now.ranges c.args.sweep.now.levels.level) = begin_from (count_of c.take_waiting.new.self) c.high-most.result c.deref.result.now c.in_ok-waiting.waiting.items (waits c.args.sweep.now.ranges c.args.sweep.now.levels.level) c.in_ok-starting.starting.items c.deref-2.result.now c.deref-2.ensures.value c.in_ok-starting.ensures c.deref.ensures.value c.in_ok-waiting.ensures.waiting in
-    let parted : AllParted (step_at c.args.scaled.graph.now c.let_stay.new.levels c.let_stay.new.self.bits c.args.sweep.now.levels.level c.sharing-sharing.result.is_dealt) c.let_stay.new.self.parts c.part.new.self.parts = subst (λ k. AllParted k c.let_stay.new.self.parts c.part.new.self.parts) (c.new-parting.ensures ∙ ap (λ b. step_at c.args.scaled.graph.now c.let_stay.new.levels b c.args.sweep.now.levels.level c.sharing-sharing.result.is_dealt) c.sharing-sharing.ensures) c.in_ok-part.ensures.parted in
-    (call_rise_step c.args.scaled.th.now.profile c.args.scaled.graph.now c.requires.running.start c.args.sweep.now.levels c.args.sweep.now.ranges c.high-most.result c.requires.running.order known.1 c.requires.running.sweeping known.0 c.vertices-n.ensures.graph c.vertices-n.ensures.small known.2 known.3 c.take_waiting.new.self c.in_ok-waiting.ensures.took c.in_ok-waiting.ensures.same c.deref-2.result.now movers c.let_stay.new.levels c.let_stay.new.self c.in_ok-staying.ensures.stay c.in_ok-staying.ensures.same c.sharing-sharing.result.is_dealt c.part.new.self parted c.in_ok-part.ensures.told c.in_ok-part.ensures.same c.go_to.new.self c.go_to.ensures.level c.go_to.ensures.seen c.go_to.ensures.rises c.lift_off.new.levels c.lift_off.new.self c.in_ok-begun.ensures.lifted c.in_ok-begun.ensures.same c.sharing-sharing-2.result.layout.bits c.sharing-sharing-2.result.is_dealt).sized
+    let parted : AllParted (step_at c.args.scaled.graph.now c.let_stay.new.levels c.let_stay.new.self.width c.args.sweep.now.levels.level c.sharing-sharing.result.is_dealt) c.let_stay.new.self.parts c.part.new.self.parts = subst (λ k. AllParted k c.let_stay.new.self.parts c.part.new.self.parts) (c.new-parting.ensures ∙ ap (λ b. step_at c.args.scaled.graph.now c.let_stay.new.levels b c.args.sweep.now.levels.level c.sharing-sharing.result.is_dealt) c.sharing-sharing.ensures) c.in_ok-part.ensures.parted in
+    (call_rise_step c.args.scaled.th.now.profile c.args.scaled.graph.now c.requires.running.start c.args.sweep.now.levels c.args.sweep.now.ranges c.high-most.result c.requires.running.order known.1 c.requires.running.sweeping known.0 c.vertices-n.ensures.graph c.vertices-n.ensures.small known.2 known.3 c.take_waiting.new.self c.in_ok-waiting.ensures.took c.in_ok-waiting.ensures.same c.deref-2.result.now movers c.let_stay.new.levels c.let_stay.new.self c.in_ok-staying.ensures.stay c.in_ok-staying.ensures.same c.sharing-sharing.result.is_dealt c.part.new.self parted c.in_ok-part.ensures.told c.in_ok-part.ensures.same c.go_to.new.self c.go_to.ensures.level c.go_to.ensures.seen c.go_to.ensures.rises c.lift_off.new.levels c.lift_off.new.self c.in_ok-begun.ensures.lifted c.in_ok-begun.ensures.same c.sharing-sharing-2.result.layout.width c.sharing-sharing-2.result.is_dealt).sized
 
 pub rise-requires-after_bounds : goal.rise-requires-after_bounds
 rise-requires-after_bounds g c κs within =
     let known = level_is c.args.scaled.th.now.profile c.args.scaled.th.now.vertices c.args.scaled.graph.now.vertices c.args.sweep.now.levels.level c.high-most.result c.group.result c.args.sweep.now.ranges c.args.scaled.scale c.high-most.ensures.value c.group.ensures.value c.requires.limit c.requires.room c.group.ensures.small in
     let movers : c.deref-2.result.now ≡ filter (is_over (count_of c.take_waiting.new.self) c.high-most.result) (waits c.args.sweep.now.ranges c.args.sweep.now.levels.level) = begin_from (count_of c.take_waiting.new.self) c.high-most.result c.deref.result.now c.in_ok-waiting.waiting.items (waits c.args.sweep.now.ranges c.args.sweep.now.levels.level) c.in_ok-starting.starting.items c.deref-2.result.now c.deref-2.ensures.value c.in_ok-starting.ensures c.deref.ensures.value c.in_ok-waiting.ensures.waiting in
-    let parted : AllParted (step_at c.args.scaled.graph.now c.let_stay.new.levels c.let_stay.new.self.bits c.args.sweep.now.levels.level c.sharing-sharing.result.is_dealt) c.let_stay.new.self.parts c.part.new.self.parts = subst (λ k. AllParted k c.let_stay.new.self.parts c.part.new.self.parts) (c.new-parting.ensures ∙ ap (λ b. step_at c.args.scaled.graph.now c.let_stay.new.levels b c.args.sweep.now.levels.level c.sharing-sharing.result.is_dealt) c.sharing-sharing.ensures) c.in_ok-part.ensures.parted in
-    let rising : c.new-rising.result ≡ step_at c.args.scaled.graph.now c.lift_off.new.levels c.lift_off.new.self.bits c.args.sweep.now.levels.level c.sharing-sharing-2.result.is_dealt = c.new-rising.ensures ∙ ap (λ b. step_at c.args.scaled.graph.now c.lift_off.new.levels b c.args.sweep.now.levels.level c.sharing-sharing-2.result.is_dealt) c.sharing-sharing-2.ensures in
+    let parted : AllParted (step_at c.args.scaled.graph.now c.let_stay.new.levels c.let_stay.new.self.width c.args.sweep.now.levels.level c.sharing-sharing.result.is_dealt) c.let_stay.new.self.parts c.part.new.self.parts = subst (λ k. AllParted k c.let_stay.new.self.parts c.part.new.self.parts) (c.new-parting.ensures ∙ ap (λ b. step_at c.args.scaled.graph.now c.let_stay.new.levels b c.args.sweep.now.levels.level c.sharing-sharing.result.is_dealt) c.sharing-sharing.ensures) c.in_ok-part.ensures.parted in
+    let rising : c.new-rising.result ≡ step_at c.args.scaled.graph.now c.lift_off.new.levels c.lift_off.new.self.width c.args.sweep.now.levels.level c.sharing-sharing-2.result.is_dealt = c.new-rising.ensures ∙ ap (λ b. step_at c.args.scaled.graph.now c.lift_off.new.levels b c.args.sweep.now.levels.level c.sharing-sharing-2.result.is_dealt) c.sharing-sharing-2.ensures in
     subst (λ k. CanRiseAll k c.lift_off.new.self.parts c.lift_off.new.self.told) (sym rising) (call_rise c.args.scaled.th.now.profile c.args.scaled.graph.now c.requires.running.start c.args.sweep.now.levels c.args.sweep.now.ranges c.high-most.result c.requires.running.order known.1 c.requires.running.sweeping known.0 c.vertices-n.ensures.graph c.vertices-n.ensures.small known.2 known.3 c.take_waiting.new.self c.in_ok-waiting.ensures.took c.in_ok-waiting.ensures.same c.deref-2.result.now movers c.let_stay.new.levels c.let_stay.new.self c.in_ok-staying.ensures.stay c.in_ok-staying.ensures.same c.sharing-sharing.result.is_dealt c.part.new.self parted c.in_ok-part.ensures.told c.in_ok-part.ensures.same c.go_to.new.self c.go_to.ensures.level c.go_to.ensures.seen c.go_to.ensures.rises c.lift_off.new.levels c.lift_off.new.self c.in_ok-begun.ensures.lifted c.in_ok-begun.ensures.same c.sharing-sharing-2.result.is_dealt)
 
 pub take_steps-requires : goal.take_steps-requires
 take_steps-requires g c =
     let known = level_is c.args.scaled.th.now.profile c.args.scaled.th.now.vertices c.args.scaled.graph.now.vertices c.args.sweep.now.levels.level c.high-most.result c.group.result c.args.sweep.now.ranges c.args.scaled.scale c.high-most.ensures.value c.group.ensures.value c.requires.limit c.requires.room c.group.ensures.small in
     let movers : c.deref-2.result.now ≡ filter (is_over (count_of c.take_waiting.new.self) c.high-most.result) (waits c.args.sweep.now.ranges c.args.sweep.now.levels.level) = begin_from (count_of c.take_waiting.new.self) c.high-most.result c.deref.result.now c.in_ok-waiting.waiting.items (waits c.args.sweep.now.ranges c.args.sweep.now.levels.level) c.in_ok-starting.starting.items c.deref-2.result.now c.deref-2.ensures.value c.in_ok-starting.ensures c.deref.ensures.value c.in_ok-waiting.ensures.waiting in
-    let parted : AllParted (step_at c.args.scaled.graph.now c.let_stay.new.levels c.let_stay.new.self.bits c.args.sweep.now.levels.level c.sharing-sharing.result.is_dealt) c.let_stay.new.self.parts c.part.new.self.parts = subst (λ k. AllParted k c.let_stay.new.self.parts c.part.new.self.parts) (c.new-parting.ensures ∙ ap (λ b. step_at c.args.scaled.graph.now c.let_stay.new.levels b c.args.sweep.now.levels.level c.sharing-sharing.result.is_dealt) c.sharing-sharing.ensures) c.in_ok-part.ensures.parted in
+    let parted : AllParted (step_at c.args.scaled.graph.now c.let_stay.new.levels c.let_stay.new.self.width c.args.sweep.now.levels.level c.sharing-sharing.result.is_dealt) c.let_stay.new.self.parts c.part.new.self.parts = subst (λ k. AllParted k c.let_stay.new.self.parts c.part.new.self.parts) (c.new-parting.ensures ∙ ap (λ b. step_at c.args.scaled.graph.now c.let_stay.new.levels b c.args.sweep.now.levels.level c.sharing-sharing.result.is_dealt) c.sharing-sharing.ensures) c.in_ok-part.ensures.parted in
     let above_is : c.high-above.result ≡ high c.args.scaled.th.now.profile (group_of c.args.scaled.th.now.profile c.args.scaled.graph.now.vertices (c.args.sweep.now.levels.level + 1)) = level_limit c.args.scaled.th.now.profile c.args.scaled.th.now.vertices c.args.scaled.graph.now.vertices (c.args.sweep.now.levels.level + 1) c.high-above.result c.group-2.result c.high-above.ensures.value c.group-2.ensures.value c.args.scaled.scale in
-    let risen : AllRisen (step_at c.args.scaled.graph.now c.lift_off.new.levels c.lift_off.new.self.bits c.args.sweep.now.levels.level c.sharing-sharing-2.result.is_dealt) c.high-above.result c.lift_off.new.self.parts c.rise.new.self.parts = subst (λ k. AllRisen k c.high-above.result c.lift_off.new.self.parts c.rise.new.self.parts) (c.new-rising.ensures ∙ ap (λ b. step_at c.args.scaled.graph.now c.lift_off.new.levels b c.args.sweep.now.levels.level c.sharing-sharing-2.result.is_dealt) c.sharing-sharing-2.ensures) c.in_ok-rise.ensures.risen in
+    let risen : AllRisen (step_at c.args.scaled.graph.now c.lift_off.new.levels c.lift_off.new.self.width c.args.sweep.now.levels.level c.sharing-sharing-2.result.is_dealt) c.high-above.result c.lift_off.new.self.parts c.rise.new.self.parts = subst (λ k. AllRisen k c.high-above.result c.lift_off.new.self.parts c.rise.new.self.parts) (c.new-rising.ensures ∙ ap (λ b. step_at c.args.scaled.graph.now c.lift_off.new.levels b c.args.sweep.now.levels.level c.sharing-sharing-2.result.is_dealt) c.sharing-sharing-2.ensures) c.in_ok-rise.ensures.risen in
     call_steps c.args.scaled.th.now.profile c.args.scaled.graph.now c.requires.running.start c.args.sweep.now.levels c.args.sweep.now.ranges c.high-most.result c.requires.running.order known.1 c.requires.running.sweeping known.0 c.vertices-n.ensures.graph c.vertices-n.ensures.small known.2 known.3 c.take_waiting.new.self c.in_ok-waiting.ensures.took c.in_ok-waiting.ensures.same c.deref-2.result.now movers c.let_stay.new.levels c.let_stay.new.self c.in_ok-staying.ensures.stay c.in_ok-staying.ensures.same c.sharing-sharing.result.is_dealt c.part.new.self parted c.in_ok-part.ensures.told c.in_ok-part.ensures.same c.go_to.new.self c.go_to.ensures.level c.go_to.ensures.seen c.go_to.ensures.rises c.lift_off.new.levels c.lift_off.new.self c.in_ok-begun.ensures.lifted c.in_ok-begun.ensures.same c.high-above.result above_is c.sharing-sharing-2.result.is_dealt c.rise.new.self risen c.in_ok-rise.ensures.told c.in_ok-rise.ensures.same
 
 pub returns-clause-step : goal.returns-clause-step
 returns-clause-step g c =
     let known = level_is c.args.scaled.th.now.profile c.args.scaled.th.now.vertices c.args.scaled.graph.now.vertices c.args.sweep.now.levels.level c.high-most.result c.group.result c.args.sweep.now.ranges c.args.scaled.scale c.high-most.ensures.value c.group.ensures.value c.requires.limit c.requires.room c.group.ensures.small in
     let movers : c.deref-2.result.now ≡ filter (is_over (count_of c.take_waiting.new.self) c.high-most.result) (waits c.args.sweep.now.ranges c.args.sweep.now.levels.level) = begin_from (count_of c.take_waiting.new.self) c.high-most.result c.deref.result.now c.in_ok-waiting.waiting.items (waits c.args.sweep.now.ranges c.args.sweep.now.levels.level) c.in_ok-starting.starting.items c.deref-2.result.now c.deref-2.ensures.value c.in_ok-starting.ensures c.deref.ensures.value c.in_ok-waiting.ensures.waiting in
-    let parted : AllParted (step_at c.args.scaled.graph.now c.let_stay.new.levels c.let_stay.new.self.bits c.args.sweep.now.levels.level c.sharing-sharing.result.is_dealt) c.let_stay.new.self.parts c.part.new.self.parts = subst (λ k. AllParted k c.let_stay.new.self.parts c.part.new.self.parts) (c.new-parting.ensures ∙ ap (λ b. step_at c.args.scaled.graph.now c.let_stay.new.levels b c.args.sweep.now.levels.level c.sharing-sharing.result.is_dealt) c.sharing-sharing.ensures) c.in_ok-part.ensures.parted in
+    let parted : AllParted (step_at c.args.scaled.graph.now c.let_stay.new.levels c.let_stay.new.self.width c.args.sweep.now.levels.level c.sharing-sharing.result.is_dealt) c.let_stay.new.self.parts c.part.new.self.parts = subst (λ k. AllParted k c.let_stay.new.self.parts c.part.new.self.parts) (c.new-parting.ensures ∙ ap (λ b. step_at c.args.scaled.graph.now c.let_stay.new.levels b c.args.sweep.now.levels.level c.sharing-sharing.result.is_dealt) c.sharing-sharing.ensures) c.in_ok-part.ensures.parted in
     let above_is : c.high-above.result ≡ high c.args.scaled.th.now.profile (group_of c.args.scaled.th.now.profile c.args.scaled.graph.now.vertices (c.args.sweep.now.levels.level + 1)) = level_limit c.args.scaled.th.now.profile c.args.scaled.th.now.vertices c.args.scaled.graph.now.vertices (c.args.sweep.now.levels.level + 1) c.high-above.result c.group-2.result c.high-above.ensures.value c.group-2.ensures.value c.args.scaled.scale in
-    let risen : AllRisen (step_at c.args.scaled.graph.now c.lift_off.new.levels c.lift_off.new.self.bits c.args.sweep.now.levels.level c.sharing-sharing-2.result.is_dealt) c.high-above.result c.lift_off.new.self.parts c.rise.new.self.parts = subst (λ k. AllRisen k c.high-above.result c.lift_off.new.self.parts c.rise.new.self.parts) (c.new-rising.ensures ∙ ap (λ b. step_at c.args.scaled.graph.now c.lift_off.new.levels b c.args.sweep.now.levels.level c.sharing-sharing-2.result.is_dealt) c.sharing-sharing-2.ensures) c.in_ok-rise.ensures.risen in
+    let risen : AllRisen (step_at c.args.scaled.graph.now c.lift_off.new.levels c.lift_off.new.self.width c.args.sweep.now.levels.level c.sharing-sharing-2.result.is_dealt) c.high-above.result c.lift_off.new.self.parts c.rise.new.self.parts = subst (λ k. AllRisen k c.high-above.result c.lift_off.new.self.parts c.rise.new.self.parts) (c.new-rising.ensures ∙ ap (λ b. step_at c.args.scaled.graph.now c.lift_off.new.levels b c.args.sweep.now.levels.level c.sharing-sharing-2.result.is_dealt) c.sharing-sharing-2.ensures) c.in_ok-rise.ensures.risen in
     step_from c.args.scaled.th.now.profile c.args.scaled.th.now.vertices c.args.sweep.now.levels.level c.high-most.result c.group.result c.args.scaled.graph.now (seen c.args.sweep.now.levels) (seen c.lift_off.new.levels) (count_of c.args.sweep.now.ranges) (count_of c.take_steps.new.self) c.high-most.ensures.value c.group.ensures.value (next_step c.args.scaled.th.now.profile c.args.scaled.graph.now c.requires.running.start c.args.sweep.now.levels c.args.sweep.now.ranges c.high-most.result c.requires.running.order known.1 c.requires.running.sweeping known.0 c.vertices-n.ensures.graph c.vertices-n.ensures.small known.2 known.3 c.take_waiting.new.self c.in_ok-waiting.ensures.took c.in_ok-waiting.ensures.same c.deref-2.result.now movers c.let_stay.new.levels c.let_stay.new.self c.in_ok-staying.ensures.stay c.in_ok-staying.ensures.same c.sharing-sharing.result.is_dealt c.part.new.self parted c.in_ok-part.ensures.told c.in_ok-part.ensures.same c.go_to.new.self c.go_to.ensures.level c.go_to.ensures.seen c.go_to.ensures.rises c.lift_off.new.levels c.lift_off.new.self c.in_ok-begun.ensures.lifted c.in_ok-begun.ensures.same c.high-above.result above_is c.sharing-sharing-2.result.is_dealt c.rise.new.self risen c.in_ok-rise.ensures.told c.in_ok-rise.ensures.same c.take_steps.new.self c.take_steps.ensures.rest c.take_steps.ensures.same)
 
 pub returns-clause-running : goal.returns-clause-running
 returns-clause-running g c = λ now x first run.
     let known = level_is c.args.scaled.th.now.profile c.args.scaled.th.now.vertices c.args.scaled.graph.now.vertices c.args.sweep.now.levels.level c.high-most.result c.group.result c.args.sweep.now.ranges c.args.scaled.scale c.high-most.ensures.value c.group.ensures.value c.requires.limit c.requires.room c.group.ensures.small in
     let movers : c.deref-2.result.now ≡ filter (is_over (count_of c.take_waiting.new.self) c.high-most.result) (waits c.args.sweep.now.ranges c.args.sweep.now.levels.level) = begin_from (count_of c.take_waiting.new.self) c.high-most.result c.deref.result.now c.in_ok-waiting.waiting.items (waits c.args.sweep.now.ranges c.args.sweep.now.levels.level) c.in_ok-starting.starting.items c.deref-2.result.now c.deref-2.ensures.value c.in_ok-starting.ensures c.deref.ensures.value c.in_ok-waiting.ensures.waiting in
-    let parted : AllParted (step_at c.args.scaled.graph.now c.let_stay.new.levels c.let_stay.new.self.bits c.args.sweep.now.levels.level c.sharing-sharing.result.is_dealt) c.let_stay.new.self.parts c.part.new.self.parts = subst (λ k. AllParted k c.let_stay.new.self.parts c.part.new.self.parts) (c.new-parting.ensures ∙ ap (λ b. step_at c.args.scaled.graph.now c.let_stay.new.levels b c.args.sweep.now.levels.level c.sharing-sharing.result.is_dealt) c.sharing-sharing.ensures) c.in_ok-part.ensures.parted in
+    let parted : AllParted (step_at c.args.scaled.graph.now c.let_stay.new.levels c.let_stay.new.self.width c.args.sweep.now.levels.level c.sharing-sharing.result.is_dealt) c.let_stay.new.self.parts c.part.new.self.parts = subst (λ k. AllParted k c.let_stay.new.self.parts c.part.new.self.parts) (c.new-parting.ensures ∙ ap (λ b. step_at c.args.scaled.graph.now c.let_stay.new.levels b c.args.sweep.now.levels.level c.sharing-sharing.result.is_dealt) c.sharing-sharing.ensures) c.in_ok-part.ensures.parted in
     let above_is : c.high-above.result ≡ high c.args.scaled.th.now.profile (group_of c.args.scaled.th.now.profile c.args.scaled.graph.now.vertices (c.args.sweep.now.levels.level + 1)) = level_limit c.args.scaled.th.now.profile c.args.scaled.th.now.vertices c.args.scaled.graph.now.vertices (c.args.sweep.now.levels.level + 1) c.high-above.result c.group-2.result c.high-above.ensures.value c.group-2.ensures.value c.args.scaled.scale in
-    let risen : AllRisen (step_at c.args.scaled.graph.now c.lift_off.new.levels c.lift_off.new.self.bits c.args.sweep.now.levels.level c.sharing-sharing-2.result.is_dealt) c.high-above.result c.lift_off.new.self.parts c.rise.new.self.parts = subst (λ k. AllRisen k c.high-above.result c.lift_off.new.self.parts c.rise.new.self.parts) (c.new-rising.ensures ∙ ap (λ b. step_at c.args.scaled.graph.now c.lift_off.new.levels b c.args.sweep.now.levels.level c.sharing-sharing-2.result.is_dealt) c.sharing-sharing-2.ensures) c.in_ok-rise.ensures.risen in
+    let risen : AllRisen (step_at c.args.scaled.graph.now c.lift_off.new.levels c.lift_off.new.self.width c.args.sweep.now.levels.level c.sharing-sharing-2.result.is_dealt) c.high-above.result c.lift_off.new.self.parts c.rise.new.self.parts = subst (λ k. AllRisen k c.high-above.result c.lift_off.new.self.parts c.rise.new.self.parts) (c.new-rising.ensures ∙ ap (λ b. step_at c.args.scaled.graph.now c.lift_off.new.levels b c.args.sweep.now.levels.level c.sharing-sharing-2.result.is_dealt) c.sharing-sharing-2.ensures) c.in_ok-rise.ensures.risen in
     let paid : IsPaid c.args.scaled.graph.now x (sweeping_of c.lift_off.new.levels c.take_steps.new.self) first (now + c.take_steps.result) = subst (λ n. IsPaid c.args.scaled.graph.now x (sweeping_of c.lift_off.new.levels c.take_steps.new.self) first (now + n)) (sym c.take_steps.ensures.steps) (next_paid c.args.scaled.th.now.profile c.args.scaled.graph.now x c.args.sweep.now.levels c.args.sweep.now.ranges c.high-most.result run.order known.1 run.sweeping known.0 c.vertices-n.ensures.graph c.vertices-n.ensures.small known.2 known.3 c.take_waiting.new.self c.in_ok-waiting.ensures.took c.in_ok-waiting.ensures.same c.deref-2.result.now movers c.let_stay.new.levels c.let_stay.new.self c.in_ok-staying.ensures.stay c.in_ok-staying.ensures.same c.sharing-sharing.result.is_dealt c.part.new.self parted c.in_ok-part.ensures.told c.in_ok-part.ensures.same c.go_to.new.self c.go_to.ensures.level c.go_to.ensures.seen c.go_to.ensures.rises c.lift_off.new.levels c.lift_off.new.self c.in_ok-begun.ensures.lifted c.in_ok-begun.ensures.same c.high-above.result above_is c.sharing-sharing-2.result.is_dealt c.rise.new.self risen c.in_ok-rise.ensures.told c.in_ok-rise.ensures.same c.take_steps.new.self c.take_steps.ensures.rest c.take_steps.ensures.same first now run.paid) in
     record {
       order = next_order c.args.scaled.th.now.profile c.args.scaled.graph.now c.requires.running.start c.args.sweep.now.levels c.args.sweep.now.ranges c.high-most.result c.requires.running.order known.1 c.requires.running.sweeping known.0 c.vertices-n.ensures.graph c.vertices-n.ensures.small known.2 known.3 c.take_waiting.new.self c.in_ok-waiting.ensures.took c.in_ok-waiting.ensures.same c.deref-2.result.now movers c.let_stay.new.levels c.let_stay.new.self c.in_ok-staying.ensures.stay c.in_ok-staying.ensures.same c.sharing-sharing.result.is_dealt c.part.new.self parted c.in_ok-part.ensures.told c.in_ok-part.ensures.same c.go_to.new.self c.go_to.ensures.level c.go_to.ensures.seen c.go_to.ensures.rises c.lift_off.new.levels c.lift_off.new.self c.in_ok-begun.ensures.lifted c.in_ok-begun.ensures.same c.high-above.result above_is c.sharing-sharing-2.result.is_dealt c.rise.new.self risen c.in_ok-rise.ensures.told c.in_ok-rise.ensures.same c.take_steps.new.self c.take_steps.ensures.rest c.take_steps.ensures.same;

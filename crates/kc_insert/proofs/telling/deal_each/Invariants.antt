@@ -3,4 +3,4 @@ use Rattle.kc_insert.specs.private.Telling.{AreDealt}
 use Rattle.kc_insert.proofs.telling.deal_each.Given as goal
 
 abbrev pub invariant-loop-v : goal.invariant-loop-v
-invariant-loop-v l = AreDealt l.layout.bits (take l.v-index l.vertices) l.initial.lists l.lists
+invariant-loop-v l = AreDealt l.layout.width (take l.v-index l.vertices) l.initial.lists l.lists

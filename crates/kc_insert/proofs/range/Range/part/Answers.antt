@@ -13,6 +13,6 @@ overflow_add-self c =
     omega (arith, few, steps, c.in_ok-self-inside.ensures.steps.1, ap length c.deref.ensures.value)
 
 pub deal-requires : goal.deal-requires
-deal-requires c = dealt_all c.step.inside.sharing.layout.bits c.step.inside.graph.now.vertices c.self.inside.told.lists c.tell_parting.new.told _ (c.in_ok-self-inside.ensures.told ∙ ap (λ (t : Tell). record t { all = t.all ++ flat_map (rising_near c.args.step.now) c.deref.result.now }) c.clear.ensures)
+deal-requires c = dealt_all c.step.inside.sharing.layout.width c.step.inside.graph.now.vertices c.self.inside.told.lists c.tell_parting.new.told _ (c.in_ok-self-inside.ensures.told ∙ ap (λ (t : Tell). record t { all = t.all ++ flat_map (rising_near c.args.step.now) c.deref.result.now }) c.clear.ensures)
     (inside_rows (λ v. v < c.step.inside.graph.now.vertices) (rising_near c.args.step.now) c.deref.result.now (λ x v at near. near_inside c.step.inside.graph.now x v (rises c.step.inside.levels.now) c.step.invariant.graph (rw (← c.step.view_is) at near)))
     (λ v h. (rw (← c.self.view_is) at (rw (← c.step.view_is) at c.requires.ranges)) v h)

@@ -19,7 +19,7 @@ pub deal-requires : goal.deal-requires
 deal-requires c =
     let other : c.step.inside.level + 1 ≢ c.step.inside.level = λ e. absurd (omega (arith, e)) in
     let on : c.on.result.now ≡ get_or c.self.inside.meetings (c.step.inside.level + 1) [] = c.on.ensures ∙ ap (λ (ms : List (List Pair)). get_or ms (c.step.inside.level + 1) []) c.take_all-met.ensures.left ∙ get_or-set_other c.self.inside.meetings c.step.inside.level (c.step.inside.level + 1) [] [] other in
-    dealt_all c.step.inside.sharing.layout.bits c.step.inside.graph.now.vertices c.self.inside.told.lists c.self-2.inside.told (met_by c.args.step.now c.on.result.now ++ flat_map (next_near c.args.step.now) c.self.inside.begun.items)
+    dealt_all c.step.inside.sharing.layout.width c.step.inside.graph.now.vertices c.self.inside.told.lists c.self-2.inside.told (met_by c.args.step.now c.on.result.now ++ flat_map (next_near c.args.step.now) c.self.inside.begun.items)
     ((ap (λ (p : Part). p.tell) c.self-2.view_is ∙ c.in_ok-self-inside.ensures.told) ∙ ap (λ (t : Tell). record t { all = t.all ++ flat_map (next_near c.args.step.now) c.self.inside.begun.items }) (c.in_ok-come_up.ensures ∙ ap (λ (t : Tell). record t { all = t.all ++ met_by c.args.step.now c.on.result.now }) c.clear.ensures))
     (inside_both (λ v. v < c.step.inside.graph.now.vertices) (met_by c.args.step.now c.on.result.now) (flat_map (next_near c.args.step.now) c.self.inside.begun.items)
     (inside_ends (λ v. v < c.step.inside.graph.now.vertices) (λ (e : Pair). e.1) (λ (e : Pair). rises c.args.step.now.levels e.0) c.on.result.now (λ v w at. ((rw (← c.step.view_is) at (rw (← c.self.view_is) at c.requires.coming)) v w (ap (has_edge (v, w)) (sym on) ∙ at)).1))

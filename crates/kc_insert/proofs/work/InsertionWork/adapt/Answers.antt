@@ -11,4 +11,4 @@ returns-clause-ready g c =
       | then-edges-ge-LONG_PHASE w ↦ ap (λ x. x.sweep.levels.stored) w.self-inside-is ∙ ap (λ x. x.sweep.levels.stored) w.self-inside.view_is ∙ ap (λ (x : Working). x.levels) c.self.view_is
       | else-edges-ge-LONG_PHASE+else-self-n w ↦ ap (λ x. x.sweep.levels.stored) w.self-inside-is ∙ ap (λ (x : Working). x.levels) c.self.view_is
     ] in
-    ready_made c.args.th.now.profile c.args.adj.now _ c.if-edges-ge-LONG_PHASE.layout.bits (c.top-levels.result + 1) c.own_counts.result.now (stored ∙ c.requires.ready.levels) c.own_counts.ensures (ap (λ k. k + 1) (c.top-levels.ensures.value ∙ ap (top_level c.args.th.now.profile) c.requires.within.scale)) c.in_ok-self-inside.ensures
+    ready_made c.args.th.now.profile c.args.adj.now _ c.if-edges-ge-LONG_PHASE.layout.width (c.top-levels.result + 1) c.own_counts.result.now (stored ∙ c.requires.ready.levels) c.own_counts.ensures (ap (λ k. k + 1) (c.top-levels.ensures.value ∙ ap (top_level c.args.th.now.profile) c.requires.within.scale)) c.in_ok-self-inside.ensures
