@@ -31,7 +31,7 @@ pub fn are_many(edges: &[Edge], graph: &Graph) -> bool {
 /// the list.
 ///
 /// Costs O(1) for each vertex of the list.
-pub fn are_most(vertices: &[u32], graph: &Graph) -> bool
+pub fn have_half(vertices: &[u32], graph: &Graph) -> bool
     requires { All (λ v. v < graph.now.vertices) vertices.now }
 {
     if vertices.len() < graph.vertices() as usize / 4 {
@@ -113,7 +113,8 @@ fn count_piece(on: Leveled<'_>, first: u32, own: &mut [u32], below: &mut [u32])
     }
 }
 
-// Does what `count_piece` does, with a thread for each worker of the crew. The pieces have about the same length.
+// Does what `count_piece` does, with a thread for each worker of the crew if it can be made. The pieces have about the
+// same length.
 #[cycle(counting)]
 #[tactic(auto, using(crate::proofs::AfreshLemmas::counted_both))]
 fn count_pieces<R: Threads + Sync>(

@@ -1,4 +1,5 @@
-//! Items filed under levels, and the next level with items. Levels without items are passed over 64 at a time.
+//! Items filed under levels, and the next level with items. A search passes 64 levels at one step if none of them had
+//! items since the last `clear`.
 
 ghost use Rattle.std.specs.Prelude.{◌≡◌, ◌+◌, ◌++◌, ◌∷◌, ◌<◌, ◌≤◌, ℕ, [], replicate, OnOk, OnErr, IfOk, slice_index_or, slice_set, length};
 
@@ -26,8 +27,7 @@ impl<T> Model for LevelList<T> {
 
 /// A list of items for each level, from level 0 up to some level.
 ///
-/// Contracts see a list of lists, that of level 0 first; there are fewer than 65,536. A search passes 64 levels without
-/// items at one step.
+/// Contracts see a list of lists, that of level 0 first; there are fewer than 65,536.
 #[derive(Drop)]
 pub struct LevelLists<T> {
     // One list for each level from 0 on; fewer than 65,536.

@@ -10,7 +10,7 @@ ghost use Rattle.kc_adj.specs.LeveledGraph.{IsAdjacency};
 ghost use Rattle.kc_adj.specs.private.Lifting.{lift_cost, AreLifted, CanGain, HaveGained, IsLifting};
 ghost use Rattle.kc_adj.specs.private.Passing.{is_touched as touches, touched_by, visit_of, ArePassed};
 
-use crate::afresh::{are_most, count_afresh};
+use crate::afresh::{count_afresh, have_half};
 use crate::counts::{Counts, as_one, gain, is_reached};
 use crate::lifting::{Lift, count_steps, lift_counts, renew};
 use crate::runs::{put_where, run_of};
@@ -161,7 +161,7 @@ fn are_made(pieces: &[Result<Passed, AllocError>]) -> bool
 /// Does what `lift_counts` does, but threads share the passes if the list is long. Fails only if memory runs out; then
 /// all is unchanged.
 ///
-/// If the list has most of the graph (`are_most`), all counts are made afresh (`count_afresh`), without memory.
+/// If the list has most of the graph (`have_half`), all counts are made afresh (`count_afresh`), without memory.
 /// Otherwise the list is cut in pieces. They have one length, but the last may be shorter. Each goes to a thread of its
 /// own if one can be made. Nothing is written before all pieces are done.
 pub fn par_lift_counts<R: Threads + Sync, L: Ledger>(
@@ -178,7 +178,7 @@ pub fn par_lift_counts<R: Threads + Sync, L: Ledger>(
     ensures err { OnErr result (counts.new ≡ counts.old) }
     ensures steps_kept { OnErr result (steps.new ≡ steps.old) }
 {
-    if are_most(vertices, lift.graph) {
+    if have_half(vertices, lift.graph) {
         count_afresh(crew, lift.graph, lift.new, counts);
         count_steps(lift, vertices, steps);
         return Ok(());

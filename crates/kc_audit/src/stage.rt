@@ -209,7 +209,8 @@ fn is_group(label: u32, members: &[Reply]) -> bool
     }
 }
 
-// Takes the members of a group line of the open phase.
+// Adds the group of a line of the open phase. Stops with `BadLine` if the members don't ascend from the label, and with
+// `BadVertex` if one is no vertex. Fails only if memory runs out.
 fn members_turn(
     run: &mut RunText,
     place: Place,

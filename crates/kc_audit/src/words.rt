@@ -50,6 +50,7 @@ pub fn has_fields(text: &[u8], from: usize, names: &[u8]) -> bool
     is_at_end(text, at)
 }
 
+// Returns the number as a level, if it is at most 65,535.
 fn level_in(number: Option<u32>) -> Option<u16>
     ensures { result ≡ level_in number }
 {
@@ -59,6 +60,7 @@ fn level_in(number: Option<u32>) -> Option<u16>
     }
 }
 
+// Returns the reply of a vertex and a level, if both were read.
 fn reply_with(vertex: Option<u32>, level: Option<u16>) -> Option<Reply>
     ensures { result ≡ reply_with vertex level }
 {

@@ -23,6 +23,6 @@ abbrev pub behind_header : ℕ → HeaderText → BatchInput
 behind_header item_limit (Accepted header rest) = WithBatches header (batches (rules_of header item_limit) (tokens rest))
 behind_header item_limit (Refused line) = HeaderRefused line
 
--- the content of these bytes
+-- the content of these bytes, by the most bytes of a line, the most of the input, and the most items of a batch
 abbrev pub input_of : ℕ → ℕ → ℕ → List ℕ → BatchInput
 input_of line_limit input_limit item_limit bytes = behind_header item_limit (header_of (kept (lines line_limit input_limit bytes)))

@@ -144,7 +144,14 @@ impl Engine {
     ///   neighbours;
     /// - after an insertion phase by a step for each vertex that rose.
     ///
-    /// So no phase passes over all vertices or all edges. A refused batch and a batch without phases cost O(1).
+    /// A phase passes over all vertices only in these cases:
+    ///
+    /// - it has 4,096 edges or more, or an edge for every 16th vertex;
+    /// - it moves a quarter of them or more;
+    /// - once, after many short phases that follow a long one.
+    ///
+    /// It passes over all edges only if half of them come or leave, or if rising vertices have half of all neighbours.
+    /// A refused batch and a batch without phases cost O(1).
     pub fn plan<R: Threads + Sync, G: Gate + Sync>(
         &mut self,
         rt: &R,

@@ -55,7 +55,8 @@ fn ends_pair_with_prefetch(graph: &Graph, bits: u32, key: u64, later: &[u64]) ->
     ends_pair(key, later)
 }
 
-// Returns the net effect of the keys.
+// Returns the net effect of the keys (`net_of`), without loops. The keys of a pair stand together, the deciding one
+// last. Costs a look-up for each pair. Fails only if memory runs out.
 fn walk(alloc: Global, graph: &Graph, bits: u32, keys: &[u64]) -> Result<Cleaned, AllocError>
     requires { AreKeys graph.now.vertices bits keys.now }
     ensures { IfOk result (λ c. c ≡ net_of graph.now bits keys.now) }

@@ -1,7 +1,7 @@
 //! All ranges of a graph, and the passes over them: by threads if there is much to do.
 //!
-//! A loop over the ranges is a function over their slice, which a method calls. So its proof knows nothing of the other
-//! fields.
+//! A loop that changes the ranges is a function over their slice, which a method calls. So its proof knows nothing of
+//! the other fields.
 
 ghost use Rattle.std.specs.Prelude.{◌≡◌, ◌+◌, ◌-◌, ◌*◌, ◌++◌, ◌<◌, ◌≤◌, ◌^◌, ℕ, [], false, true, All, IfOk, OnOk, length, slice_index_or, sum_by};
 ghost use Rattle.std.specs.List.{flat_map};
@@ -27,7 +27,7 @@ use std::thread::Threads;
 pub struct Ranges {
     /// How they are cut.
     pub layout: Layout,
-    /// One for each part, that of vertex 0 first.
+    /// The ranges, that of vertex 0 first.
     pub items: Vec<Range>,
     // What the ranges told, while it is heard; each list is swapped with that of its range.
     told: Vec<Told>,
@@ -380,8 +380,9 @@ impl Ranges {
     }
 
     /// Runs the pass `rise` of each range: a riser that met a vertex which stays counts one less. Vertices that begin
-    /// count afresh, and their meetings are filed. Then each range hears which of its vertices were met. A vertex that
-    /// then counts more than `most`, the limit of the next level, waits there. Fails only if memory runs out.
+    /// count afresh, and their meetings are filed. Then each range hears which of its vertices on the next level are
+    /// met, or stand beside one that begins. One that then counts more than `most`, the limit of that level, waits
+    /// there. Fails only if memory runs out.
     pub fn rise<R: Threads + Sync, G: Gate + Sync>(
         &mut self,
         rounds: &Rounds<R, G>,

@@ -29,8 +29,8 @@ pub fn raised_is_one_list()
     ensures lesser { LesserIsRaisable }
 {}
 
-/// Levels after insertions alone depend on the graph, and not on how its edges were cut into batches. A list raised in
-/// a graph and again in one with more edges is the list raised in the second at once.
+/// A list raised in a graph, and raised again in one with more edges, is raised in the second at once. So levels after
+/// insertions alone, from the same start, don't depend on how the edges were cut into batches.
 pub fn insertions_alone_give_one_list()
     ensures { InsertionsAloneGiveOneList }
 {}

@@ -23,7 +23,7 @@ mod thresholds;
 pub use counts::{at_least, check_lower, check_upper};
 pub use levels::Levels;
 pub use move_lists::Moves;
-pub use moved::{moved_count, moves_of};
+pub use moved::moves_of;
 pub use moves::Move;
 pub use profile::Profile;
 pub use thresholds::{Estimate, Thresholds};

@@ -2,29 +2,12 @@
 ghost use Rattle.std.specs.Prelude.{◌≡◌, ◌<◌, ◌≤◌, ℕ, true, IfOk, length, map};
 ghost use Rattle.std.specs.Bool.{OnTrue};
 ghost use Rattle.kc_graph.specs.Numbers.{has_number, RisesFrom};
-ghost use Rattle.kc_levels.specs.Moved.{is_moved, moved_below, moved_count, move_of, moves_between};
+ghost use Rattle.kc_levels.specs.Moved.{is_moved, moved_below, move_of, moves_between};
 ghost use Rattle.kc_levels.specs.Following.{AreDistinct};
 
 use crate::{Levels, Move, Moves};
 use kc_graph::{MAX_VERTICES, sort_numbers};
 use std::alloc::{AllocError, Global};
-
-/// Returns how many vertices have another level in `after` than in `before` (`moved_count`). One pass over the levels.
-pub fn moved_count(before: &Levels, after: &Levels) -> u32
-    requires sized { length after.now ≡ length before.now }
-    requires small { length before.now ≤ MAX_VERTICES }
-    ensures { result ≡ moved_count (length before.now) before.now after.now }
-{
-    let before = before.as_slice();
-    let after = after.as_slice();
-    let mut count = 0;
-    for v in 0..before.len() {
-        if before[v] != after[v] {
-            count += 1;
-        }
-    }
-    count
-}
 
 // If at least a quarter of the vertices moved, they are listed by a pass over all levels. That takes 1 to 2 nanoseconds
 // a level, and a sort by digits about 8 a vertex of the list.

@@ -44,7 +44,7 @@ pub struct Rounds<'a, R, G> {
     ghost few_workers: { (1 ≤ workers) × (workers ≤ 64) },
 }
 
-// Returns how many workers share a list: one for each full `least_piece` items, at least one.
+// Returns how many workers share a list: one for each full `least_piece` items, at least one and at most `workers`.
 fn workers_for(workers: u32, items: usize, least_piece: usize) -> u32
     requires some_workers { 1 ≤ workers }
     requires some_length { 1 ≤ least_piece }

@@ -142,7 +142,8 @@ impl<'a, R: Threads + Sync> Service<'a, R> {
     ///
     /// Cost: that of `clean_by`, `Engine::plan` and `Engine::show`. It passes over all vertices only for a phase with
     /// 4,096 edges or more, or with an edge for every 16th vertex. So it does if every fourth vertex moves, and once
-    /// after many short phases. It passes over all edges only for a phase with as many.
+    /// after many short phases. It passes over all edges only if half of them come or leave, or if rising vertices have
+    /// half of all neighbours.
     pub fn apply(&mut self, items: &[Item]) -> Result<Applied, ApplyFault>
         ensures table { self.new.table ≡ self.old.table }
         ensures vertices { self.new.vertices ≡ self.old.vertices }

@@ -11,6 +11,9 @@
 //!
 //! [`settle`] applies the batches of an input without readers. [`GenSource`] is a source of a generated input, whose
 //! text `specs/Generated` defines.
+//!
+//! Floor: sessions and programs. From above: [`run_session`], [`settle`] and [`GenSource`] by `kcore`, and [`laws`] in
+//! proofs. `kserve` has clients in place of an input.
 #![tactic(auto)]
 
 mod agent;

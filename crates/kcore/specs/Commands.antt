@@ -76,6 +76,7 @@ IsText Audit bytes text refused = IsAuditText bytes text refused
 IsText Dense bytes text refused = IsDenseText (input_said bytes) text refused
 IsText (Gen seed n batches items workers) bytes text refused = IsLoadText (input_said bytes) text refused
 
+-- the bytes that a sink took from a command over these bytes: a whole text with Done and Refused, else a prefix of one
 abbrev pub Wrote : Command → List ℕ → Option (List ℕ) → Option (List ℕ) → Status → Type 0
 Wrote command bytes before now Done = WritesWhole (IsText command bytes) before now false
 Wrote command bytes before now Refused = WritesWhole (IsText command bytes) before now true
@@ -91,6 +92,7 @@ abbrev pub worked_on : Command → Option (List ℕ) → Option (List ℕ)
 worked_on (Gen seed n batches items workers) left = Some (generated seed n batches items)
 worked_on command left = left
 
+-- what Wrote says, if the bytes are known
 abbrev pub WroteOf : Command → Option (List ℕ) → Option (List ℕ) → Option (List ℕ) → Status → Type 0
 WroteOf command None before now status = Unit {0}
 WroteOf command (Some bytes) before now status = Wrote command bytes before now status

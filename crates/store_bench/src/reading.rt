@@ -47,7 +47,8 @@ pub fn run_loads<R: Threads + Sync>(rt: &R, words: &[u64], order: &[u32], sums: 
     );
 }
 
-// Returns the sum of the levels of the vertices in this order.
+// Reads the levels of the vertices in this order, and returns their sum modulo 2^64. Leaves out vertices that the
+// store doesn't have.
 fn sum_of_levels(store: &Store, pass: &mut Pass, order: &[u32]) -> u64
     requires { pass.old.table ≡ store.now.table }
     ensures { pass.new.table ≡ pass.old.table }

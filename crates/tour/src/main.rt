@@ -209,7 +209,7 @@ fn run_beside<R: Threads + Sync + Print>(
 }
 
 // Applies the batches beside the readers, and prints what the readers saw, and the bounds.
-fn run_with<R: Threads + Sync + Print>(
+fn apply_and_print<R: Threads + Sync + Print>(
     rt: &R,
     service: &mut Service<'_, R>,
     one: &mut Watch,
@@ -228,7 +228,7 @@ fn run_with<R: Threads + Sync + Print>(
     print_bounds(rt, &mut one.reader, coreness.as_slice())
 }
 
-// Opens the two readers, and runs with them.
+// Opens the two readers, applies the batches beside them, and prints what they saw.
 fn run<R: Threads + Sync + Print>(
     rt: &R,
     alloc: Global,
@@ -237,7 +237,7 @@ fn run<R: Threads + Sync + Print>(
     let [first, second] = WATCHED;
     let mut one = Watch::open(alloc, service, first)?;
     let mut other = Watch::open(alloc, service, second)?;
-    run_with(rt, service, &mut one, &mut other)
+    apply_and_print(rt, service, &mut one, &mut other)
 }
 
 fn main(rt: HostRuntime) -> anyhow::Result<()> {

@@ -3,9 +3,7 @@ ghost use Rattle.std.specs.Prelude.{◌≡◌};
 
 use super::support::{check_row, graph, levels};
 use kc_graph::MAX_VERTICES;
-use kc_levels::{
-    Estimate, Levels, Profile, Thresholds, at_least, check_lower, check_upper, moved_count,
-};
+use kc_levels::{Estimate, Levels, Profile, Thresholds, at_least, check_lower, check_upper};
 use std::alloc::Global;
 use std::process::Abort;
 
@@ -94,13 +92,4 @@ fn a_star_meets_and_breaks_the_bounds(rt: HostRuntime) {
                 && check_lower(&star, &levels, &th, v) == lower,
         );
     }
-}
-
-#[test]
-fn moved_vertices_are_counted(rt: HostRuntime) {
-    let before = Levels::zeros(rt.alloc(), 3).expect(&rt, "memory");
-    let mut after = before.copy(rt.alloc()).expect(&rt, "memory");
-    after.set(0, 2);
-    after.set(2, 1);
-    assert!(rt; after.as_slice() == [2, 0, 1].as_slice() && moved_count(&before, &after) == 2);
 }
