@@ -1,6 +1,6 @@
 //! Vertices that go up together, with passes over their neighbours by threads. Each thread passes over the neighbours
 //! of a piece of the list and writes no count. Then one thread writes what the threads found, in order. If the list has
-//! most of the graph, all counts are made afresh instead.
+//! half of all neighbours (`have_half`), all counts are made afresh instead.
 //!
 //! `specs/private/Passing` defines what is found.
 
@@ -161,7 +161,7 @@ fn are_made(pieces: &[Result<Passed, AllocError>]) -> bool
 /// Does what `lift_counts` does, but threads share the passes if the list is long. Fails only if memory runs out; then
 /// all is unchanged.
 ///
-/// If the list has most of the graph (`have_half`), all counts are made afresh (`count_afresh`), without memory.
+/// If the list has half of all neighbours (`have_half`), all counts are made afresh (`count_afresh`), without memory.
 /// Otherwise the list is cut in pieces. They have one length, but the last may be shorter. Each goes to a thread of its
 /// own if one can be made. Nothing is written before all pieces are done.
 pub fn par_lift_counts<R: Threads + Sync, L: Ledger>(

@@ -46,7 +46,7 @@ impl<L: Ledger> Steps<L> {
         self.book.add(&mut self.share, 1);
     }
 
-    /// Counts `count` steps at once, for a pass that threads made.
+    /// Counts `count` steps at once.
     pub fn add(&mut self, count: usize)
         ensures { self.new ≡ self.old + count }
     {

@@ -77,7 +77,7 @@ fn read_ask(alloc: Global, text: &[u8], n: u32) -> Result<Option<Ask>, AllocErro
 }
 
 /// Returns the ask of an ask line that follows `count` others. Returns None if the line doesn't have its form, or if it
-/// would be the 65th.
+/// would be the 65th. Fails only if memory runs out.
 pub fn next_ask(alloc: Global, text: &[u8], n: u32, count: usize) -> Result<Option<Ask>, AllocError>
     ensures ask { IfOk result (λ found. found ≡ (if nat_lt count 64 then ask_in n (words text.now) else None)) }
     ensures fits { IfOk result (λ found. IfSome found (IsAsk n)) }

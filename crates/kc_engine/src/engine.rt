@@ -150,8 +150,8 @@ impl Engine {
     /// - it moves a quarter of them or more;
     /// - once, after many short phases that follow a long one.
     ///
-    /// It passes over all edges only if half of them come or leave, or if rising vertices have half of all neighbours.
-    /// A refused batch and a batch without phases cost O(1).
+    /// It passes over all edges only if half of them leave, if all come in at once, or if rising vertices have half of
+    /// all neighbours. A refused batch and a batch without phases cost O(1).
     pub fn plan<R: Threads + Sync, G: Gate + Sync>(
         &mut self,
         rt: &R,
@@ -244,7 +244,7 @@ impl Engine {
     }
 
     /// Takes back a plan that is no longer needed. Its memory serves the plans of later batches. Contracts see no
-    /// change of the engine, and later answers are the same without this call. Keeps less than 1 MB
+    /// change of the engine, and later answers are the same without this call. Keeps less than 4 MB
     /// (`GroupWork::take_back`), and costs a step for each group of the plan.
     pub fn reuse(&mut self, plan: BatchPlan)
         ensures { self.new ≡ self.old }

@@ -12,6 +12,18 @@ use kc_graph::{Edge, Edges, MAX_VERTICES};
 use kc_history::{Entry, Move};
 use std::alloc::{AllocError, Global};
 
+// Returns the number of groups, for the memory of their entries: each has one vertex that is its own label. No clause
+// says so.
+pub(crate) fn count_groups(moves: &[Move], places: &[u32]) -> usize
+    requires { AreInOrder (length places.now) moves.now }
+{
+    let mut count = 0usize;
+    for m in moves {
+        count = count.saturating_add(usize::from(places[m.vertex as usize] == m.vertex));
+    }
+    count
+}
+
 // Makes an empty entry of the phase for each label, labels ascending. Turns the label of each vertex that moves into
 // the place of its entry.
 //

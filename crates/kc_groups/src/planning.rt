@@ -12,7 +12,7 @@ ghost use Rattle.kc_groups.specs.private.Gathering.{AreNumbered, is_mover, in_ro
 ghost use Rattle.kc_groups.specs.private.Labels.{IsLabelled};
 ghost use Rattle.kc_groups.specs.WellFormed.{IsWellFormed};
 
-use crate::dealing::{deal_edges, deal_moves, open_groups};
+use crate::dealing::{count_groups, deal_edges, deal_moves, open_groups};
 use crate::linking::{join_ends, link_rows, lone_places};
 use crate::moved::find_moves;
 use crate::pieces::gather_rows;
@@ -61,7 +61,7 @@ fn plan_labelled(
     ensures entries { IfOk result (λ plan. (g : GraphShape) → IsLabelled g phase.now places.old → IsPhasePlan phase.now g [] plan) }
 {
     let moves = phase.moves.as_slice();
-    let mut groups = Vec::new(alloc);
+    let mut groups = Vec::with_capacity(alloc, count_groups(moves, places))?;
     let mut quiet = Entry::new(alloc, phase.number, None, phase.add);
     open_groups(alloc, phase, places, spares, &mut groups)?;
     deal_moves(moves, places, &mut groups)?;

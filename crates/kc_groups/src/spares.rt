@@ -6,8 +6,8 @@ use crate::Phase;
 use kc_history::Entry;
 use std::alloc::Global;
 
-// The most spare entries. Together they take less than 1 MB, as each has two lists of at most 64 bytes.
-const MOST_SPARES: usize = 4_096;
+// The most spare entries. Together they take less than 4 MB, as each has two lists of at most 64 bytes.
+const MOST_SPARES: usize = 16_384;
 
 // The most moves of a spare entry, and the most edges. In a small batch nearly every group has fewer.
 const MOST_ITEMS: usize = 8;

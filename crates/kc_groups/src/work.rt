@@ -47,7 +47,7 @@ impl GroupWork {
     /// Takes back a plan that is no longer needed: the memory of its small groups serves the plans of later phases. The
     /// numbers stay as they are.
     ///
-    /// Keeps at most 4,096 entries, each with at most 8 moves and 8 edges, and drops the others: less than 1 MB. Costs
+    /// Keeps at most 16,384 entries, each with at most 8 moves and 8 edges, and drops the others: less than 4 MB. Costs
     /// a step for each group.
     pub fn take_back(&mut self, plan: PhasePlan)
         ensures { self.new ≡ self.old }

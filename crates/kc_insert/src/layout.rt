@@ -73,7 +73,8 @@ impl Layout {
     }
 
     /// Makes the ranges for a long phase: one range of fewer than 32,768 vertices, or for one worker of fewer than
-    /// 262,144. Else makes 4 to 126 of equal width: of at most 65,536 vertices each, or of more from 4,194,304 on.
+    /// 262,144. Else makes 4 to 126 of equal width. Up to 4,194,304 vertices each has at most 65,536, and beyond at
+    /// most 262,144.
     ///
     /// The threads of a pass get ranges that follow each other, the same number each if it can be. So the number of
     /// ranges is a multiple of the number of workers: equal counts of equal ranges share the work.

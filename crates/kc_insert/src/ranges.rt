@@ -109,7 +109,8 @@ fn stop_each(levels: &mut RisingLevels, items: &mut [Range]) -> Result<usize, Al
     Ok(count)
 }
 
-// Begins to raise the vertices, each in its range. Returns how many there are. Fails only if memory runs out.
+// Begins to raise each vertex of the list once, in its range. A repeat is on the next level by then, and is skipped.
+// Returns how many there are. Fails only if memory runs out.
 fn lift_each(
     levels: &mut RisingLevels,
     level: u16,

@@ -1,4 +1,4 @@
-//! Passes over all ranges: each range by a thread of its own if there is much to do.
+//! Passes over all ranges. If there is much to do, threads share the ranges, and one thread at a time writes each.
 
 ghost use Rattle.std.specs.Prelude.{◌≡◌, ◌+◌, ◌<◌, ℕ, false, All, OnOk, length, slice_index_or};
 ghost use Rattle.kc_insert.specs.private.Parts.{CanHearLess, CanHearMore, CanPart, CanRise, HasHeardLess, HasParted, HasRisen, HaveMet};

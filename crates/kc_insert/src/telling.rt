@@ -1,4 +1,4 @@
-//! What a pass over one range has to tell of the vertices of others.
+//! What a pass over one range tells of vertices: its own, and those of other ranges.
 
 ghost use Rattle.std.specs.Prelude.{◌≡◌, ◌+◌, ◌++◌, ◌∷◌, ◌<◌, ◌≤◌, ◌^◌, ℕ, [], true, All, IfOk, OnOk, filter, length, replicate, slice_index_or, take};
 ghost use Rattle.kc_graph.specs.Numbers.{has_number};

@@ -92,9 +92,9 @@ impl InsertionWork {
     /// Cuts the vertices into the ranges that fit a phase with these edges. The workspace stays ready for the graph.
     ///
     /// Ranges let threads share a long phase, and cost a short one more than they save. The first long phase, of at
-    /// least 4,096 edges, cuts 32,768 vertices or more, as many ranges for each worker. With one worker it does so from
-    /// 262,144 vertices on. After one short phase for each 1,024 vertices in a row, the next short one makes one range
-    /// again. So going back costs no more than was saved.
+    /// least 4,096 edges, cuts 32,768 vertices or more, the same number of ranges for each worker. With one worker it
+    /// does so from 262,144 vertices on. After one short phase for each 1,024 vertices in a row, the next short one
+    /// makes one range again. So going back costs no more than was saved.
     ///
     /// If the ranges become others, this costs a pass over the vertices, and for each range one over the levels up to
     /// the top. The old ranges are given back after the new ones are made. Fails only if memory runs out; the workspace

@@ -140,10 +140,14 @@ impl<'a, R: Threads + Sync> Service<'a, R> {
     /// After each fault but `Memory` the service is unchanged. After `Memory` it is unchanged too, or it has halted.
     /// Once it has halted, its graph and levels are gone, and readers keep the state before the batch.
     ///
-    /// Cost: that of `clean_by`, `Engine::plan` and `Engine::show`. It passes over all vertices only for a phase with
-    /// 4,096 edges or more, or with an edge for every 16th vertex. So it does if every fourth vertex moves, and once
-    /// after many short phases. It passes over all edges only if half of them come or leave, or if rising vertices have
-    /// half of all neighbours.
+    /// Cost: that of `clean_by`, `Engine::plan` and `Engine::show`. Passes over all vertices only in these cases:
+    ///
+    /// - a phase has 4,096 edges or more, or an edge for every 16th vertex;
+    /// - a phase moves a quarter of all vertices or more;
+    /// - once, after many short phases that follow a long one.
+    ///
+    /// Passes over all edges only if half of them leave, if all come in at once, or if rising vertices have half of all
+    /// neighbours.
     pub fn apply(&mut self, items: &[Item]) -> Result<Applied, ApplyFault>
         ensures table { self.new.table ≡ self.old.table }
         ensures vertices { self.new.vertices ≡ self.old.vertices }
