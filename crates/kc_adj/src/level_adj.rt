@@ -206,9 +206,8 @@ impl LevelAdj {
     /// Counts 3 steps an edge. Fails only if memory runs out; then all is unchanged, the steps too.
     ///
     /// Costs what `Graph::par_insert_all` costs, and each edge changes four counts. All counts are made afresh instead
-    /// if the graph had no edges, and the list has half as many edges as there are vertices, or more. That costs a look
-    /// at each vertex on level 0, and a pass over the neighbours of each other one. Only time and memory depend on the
-    /// crew.
+    /// if the graph had no edges, and the list has one for every two vertices, or more. That costs a look at each
+    /// vertex on level 0, and a pass over the neighbours of each other one. Only time and memory depend on the crew.
     pub fn link_all<R: Threads + Sync, L: Ledger>(
         &mut self,
         crew: &Crew<'_, R>,
@@ -238,8 +237,8 @@ impl LevelAdj {
     /// Counts 3 steps an edge. Fails only if memory runs out; then all is unchanged, the steps too.
     ///
     /// Costs what `Graph::par_remove_all` costs, and each edge changes four counts. All counts are made afresh, as by
-    /// `link_all`, if half of all edges leave or more, and they are half as many as the vertices or more. Only time and
-    /// memory depend on the crew.
+    /// `link_all`, if half of all edges leave, and half as many as there are vertices, or more. Only time and memory
+    /// depend on the crew.
     pub fn unlink_all<R: Threads + Sync, L: Ledger>(
         &mut self,
         crew: &Crew<'_, R>,

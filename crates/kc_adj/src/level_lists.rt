@@ -10,6 +10,10 @@ use std::mem;
 // The number of levels that share a mark.
 const SPAN: usize = 64;
 
+// The number of items for which a list's first memory has room. A sweep fills and empties its lists over and over, and
+// lists that begin with room for 4 grow twice more.
+const FIRST_ROOM: usize = 16;
+
 /// The items of one level, in the order in which they came.
 #[derive(Drop)]
 struct LevelList<T> {
@@ -94,7 +98,8 @@ impl<T: Drop> LevelLists<T> {
         Ok(())
     }
 
-    /// Appends an item to the list of a level. Fails only if memory runs out; then nothing is changed.
+    /// Appends an item to the list of a level. A list's first memory has room for 16 items. Fails only if memory runs
+    /// out; then nothing is changed.
     pub fn file(&mut self, level: u16, item: T) -> Result<(), AllocError>
         requires { level < length self.old }
         ensures ok { OnOk result (self.new ≡ slice_set self.old level (slice_index_or self.old level [] ++ item ∷ [])) }
@@ -104,7 +109,11 @@ impl<T: Drop> LevelLists<T> {
         if self.end <= level {
             self.end = level + 1;
         }
-        self.lists[level as usize].items.push(item)?;
+        let items = &mut self.lists[level as usize].items;
+        if items.capacity() == 0 {
+            items.reserve_exact(FIRST_ROOM)?;
+        }
+        items.push(item)?;
         Ok(())
     }
 

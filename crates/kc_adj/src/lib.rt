@@ -1,6 +1,6 @@
 //! Level adjacency: a graph with levels, and two counts for each vertex. They are of its neighbours on its level or
-//! above, and on the level below or above. The counts are kept when levels change. They may be made afresh in three
-//! cases: edges come into a graph without any, half of all edges leave, or rising vertices have half of all neighbours.
+//! above, and on the level below or above. The counts are kept when levels change. They may be made afresh if edges
+//! come into a graph without any, if half of all edges leave, or if many vertices rise.
 //!
 //! [`LevelAdj`] is the graph with its levels. Its changing calls count their steps in a [`Steps`], which costs nothing
 //! when the program runs. [`LevelLists`] has a list of items for each level, for sweeps from level to level.

@@ -10,7 +10,7 @@ ghost use Rattle.kc_levels.specs.LevelList.{at_least, IsBelow};
 ghost use Rattle.kc_adj.specs.LeveledGraph.{IsAdjacency};
 ghost use Rattle.kc_adj.specs.private.Lifting.{is_unmoved, gains, lift_cost, AreLifted, CanGain, HaveGained};
 
-use crate::counts::{Counts, as_one, gain};
+use crate::counts::{Counts, as_one, gain, is_reached};
 use crate::steps::Steps;
 use kc_graph::{Graph, MAX_VERTICES};
 use kc_levels::Levels;
@@ -56,7 +56,8 @@ impl<'a> Lift<'a> {
     }
 }
 
-// Adds to both counts of w for a neighbour that goes up from level `from` to level `to`, unless w moves too.
+// Adds to both counts of w for a neighbour that goes up from level `from` to level `to`, unless w moves too. If no
+// count of w is reached, its old level isn't loaded.
 fn gain_unmoved(lift: &Lift<'_>, counts: &mut Counts, w: u32, from: u16, to: u16)
     requires vertex { w < lift.now.graph.vertices }
     requires own { w < length counts.old.own.items }
@@ -67,7 +68,7 @@ fn gain_unmoved(lift: &Lift<'_>, counts: &mut Counts, w: u32, from: u16, to: u16
     ensures below { counts.new.below.items ≡ slice_set counts.old.below.items w (slice_index counts.old.below.items w + gains lift.now from to 1 w) }
 {
     let level = lift.new[w as usize];
-    if lift.old[w as usize] == level {
+    if is_reached(from, to, level) && lift.old[w as usize] == level {
         gain(counts, w, from, to, level);
     }
 }

@@ -150,8 +150,8 @@ impl Engine {
     /// - it moves a quarter of them or more;
     /// - once, after many short phases that follow a long one.
     ///
-    /// It passes over all edges only if half of them leave, if all come in at once, or if rising vertices have half of
-    /// all neighbours. A refused batch and a batch without phases cost O(1).
+    /// It passes over all edges only if half of them leave, all come in at once, or rising vertices have half of all
+    /// neighbours. A refused batch and a batch without phases cost O(1).
     pub fn plan<R: Threads + Sync, G: Gate + Sync>(
         &mut self,
         rt: &R,
