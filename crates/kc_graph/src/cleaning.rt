@@ -203,7 +203,7 @@ pub fn clean_by<R: Threads + Sync>(
 /// put together, so these take memory twice.
 ///
 /// As many threads as the runtime has sort a list of 65,536 keys or edges or more. The calling thread alone sorts a
-/// shorter one. If it has 2,048 keys or more, it deals them to buckets four times, with two passes each time. Meanwhile
+/// shorter one. If it has 512 keys or more, it deals them to buckets four times, with two passes each time. Meanwhile
 /// it takes memory for the keys twice and for at most 4,096 counters. Keys that come in order cost one pass. With one
 /// worker (`clean_by`) 65,536 keys or more are dealt once before, to at most 4,096 ranges, and then range by range.
 pub fn clean<R: Threads + Sync>(
