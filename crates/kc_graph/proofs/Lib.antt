@@ -1,6 +1,7 @@
 pub mod lemmas
 mod NumberLemmas
 mod SearchLemmas
+mod CarryLemmas
 mod CountLemmas
 mod EdgeLemmas
 mod NeighbourLemmas
