@@ -78,7 +78,7 @@ impl InRow for Edge {
 }
 
 // Prefetches the rows of the next `AHEAD` items of `rest` if at most `left` items remain. Lowers `left` to the number
-// that remains after these. Always returns true.
+// that remains after these. Items of one vertex stand together, and its row is prefetched once. Always returns true.
 fn prefetch_rows<T: InRow>(rows: &[Row], first: u32, rest: &[T], left: &mut usize) -> bool
     ensures { result ≡ true }
 {
@@ -86,11 +86,17 @@ fn prefetch_rows<T: InRow>(rows: &[Row], first: u32, rest: &[T], left: &mut usiz
     if count > *left {
         return true;
     }
+    let mut before = None;
     for item in &rest[..count.min(AHEAD)] {
-        if !prefetch_row(rows, first, item.vertex()) {
+        let v = item.vertex();
+        if before == Some(v) {
+            continue;
+        }
+        if !prefetch_row(rows, first, v) {
             // Never: `prefetch_row` always returns true.
             return false;
         }
+        before = Some(v);
     }
     *left = count.saturating_sub(AHEAD);
     true
