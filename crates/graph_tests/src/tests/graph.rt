@@ -201,19 +201,22 @@ fn any_number_of_threads(rt: HostRuntime) {
     }
 }
 
-// 3,000 numbers of two digits of 12 bits, which are dealt to buckets, and others, which are sorted in place.
+// From 512 numbers below 2^18 on, and from 2,048 below 2^24 on, lists are dealt to buckets. Shorter ones and numbers of
+// 32 bits are sorted in place.
 #[test]
 fn many_numbers_come_into_order(rt: HostRuntime) {
-    for lost in [8, 0] {
-        let mut numbers = Vec::new(rt.alloc());
-        for i in 0..3_000u32 {
-            numbers
-                .push(i.wrapping_mul(2_654_435_761) >> lost)
-                .expect(&rt, "memory");
+    for lost in [14, 8, 0] {
+        for len in [511u32, 512, 2_047, 2_048] {
+            let mut numbers = Vec::new(rt.alloc());
+            for i in 0..len {
+                numbers
+                    .push(i.wrapping_mul(2_654_435_761) >> lost)
+                    .expect(&rt, "memory");
+            }
+            let mut wanted = numbers.clone().expect(&rt, "memory");
+            wanted.sort_unstable();
+            sort_numbers(rt.alloc(), &mut numbers);
+            assert!(rt; numbers == wanted);
         }
-        let mut wanted = numbers.clone().expect(&rt, "memory");
-        wanted.sort_unstable();
-        sort_numbers(rt.alloc(), &mut numbers);
-        assert!(rt; numbers == wanted);
     }
 }
