@@ -1,50 +1,38 @@
--- A number that was pushed comes down to its place, by turns of parts of the list.
-use Rattle.std.proofs.Common.{ℕ, ◌+◌, ◌≤◌, ◌≡◌, List, [], ◌∷◌, ◌++◌, length, take, drop, sym, ap, ◌∙◌, append_assoc, arith, length-append, length-drop}
-use Rattle.std.proofs.Math.Seq.{take-add}
-use Rattle.std.proofs.lemmas.List.{take-append-drop, length-take-le, take_at, drop_at, drop-drop}
+-- A number that was pushed comes down to its place, by a turn of all from there on.
+use Rattle.std.proofs.Common.{ℕ, ◌-◌, ◌≤◌, ◌≡◌, List, [], ◌∷◌, ◌++◌, length, take, drop, refl, sym, ap, ◌∙◌, append_assoc, append-nil, arith, length-append, length-drop}
+use Rattle.std.proofs.lemmas.List.{take-append-drop, length-take-le, take_at, drop_at, take_all, drop_all}
 use Rattle.std.specs.List.{insert}
+use Rattle.std.specs.Prelude.{Err}
 use mathlib.Core.Path.{ap₂}
 use borrow.Rule.Slice.PartMut.{mid_of, put_mid}
 use Rattle.smallvec.specs.SmallVec.{SmallVec, with_items}
 use Rattle.smallvec.proofs.SmallVecLemmas.{items-with_items}
-use Rattle.std.specs.Prelude.{Err}
 use Rattle.kc_graph.specs.Numbers.{RisesFrom}
 use Rattle.kc_graph.specs.private.Numbers.{put, Found}
 use Rattle.kc_graph.proofs.SearchLemmas.{inserted}
 
--- a part whose last number comes before the others
-turned : (bs ps ds : List ℕ) (x a n k : ℕ) (ys : List ℕ) → length bs ≡ a → length ps ≡ n → k ≡ n + 1
-    → (let xs = bs ++ (ps ++ x ∷ ds) in ys ≡ drop n (mid_of a k xs) ++ take n (mid_of a k xs))
-    → put_mid a k (bs ++ (ps ++ x ∷ ds)) ys ≡ bs ++ x ∷ (ps ++ ds)
-turned bs ps ds x a n k ys p q r e =
-    let xs = bs ++ (ps ++ x ∷ ds) in
-    let tail : drop a xs ≡ ps ++ x ∷ ds = drop_at bs (ps ++ x ∷ ds) a (omega arith) in
-    let long = length-append ps (x ∷ []) in
-    let mid : mid_of a k xs ≡ ps ++ x ∷ [] =
-    ap (take k) (tail ∙ sym (append_assoc ps (x ∷ []) ds)) ∙ take_at (ps ++ x ∷ []) ds k (omega arith) in
-    let turn : ys ≡ x ∷ ps =
-    e ∙ ap (λ (m : List ℕ). drop n m ++ take n m) mid
-    ∙ ap₂ (λ (u v : List ℕ). u ++ v) (drop_at ps (x ∷ []) n (omega arith)) (take_at ps (x ∷ []) n (omega arith)) in
-    let rest : drop k (drop a xs) ≡ ds =
-    ap (drop k) (tail ∙ sym (append_assoc ps (x ∷ []) ds)) ∙ drop_at (ps ++ x ∷ []) ds k (omega arith) in
-    ap₂ (λ (u v : List ℕ). u ++ v) (take_at bs (ps ++ x ∷ ds) a (omega arith)) (ap₂ (λ (u v : List ℕ). u ++ v) turn rest)
-
--- the list with x at place e, after a turn of the part from a up to x
-pub insert_lower : (front : List ℕ) (x a e n k : ℕ) (xs ys : List ℕ) → xs ≡ insert front e x → a + n ≡ e → e ≤ length front → k ≡ n + 1
-    → ys ≡ drop n (mid_of a k xs) ++ take n (mid_of a k xs)
-    → put_mid a k xs ys ≡ insert front a x
-insert_lower front x a e n k xs ys is far le r turn =
+-- the list with x at place a, after a turn of the part from a on by one
+pub turned : (front : List ℕ) (x a : ℕ) (xs ys : List ℕ) → xs ≡ front ++ x ∷ [] → a ≤ length front
+    → (let m = mid_of a (length xs - a) xs in ys ≡ drop (length m - 1) m ++ take (length m - 1) m)
+    → put_mid a (length xs - a) xs ys ≡ insert front a x
+turned front x a xs ys is le turn =
+    let k = length xs - a in
     let bs = take a front in
-    let ps = take n (drop a front) in
-    let ds = drop e front in
-    let long = length-drop a front in
-    let parted : xs ≡ bs ++ (ps ++ x ∷ ds) =
-    is ∙ ap (λ m. take m front ++ x ∷ ds) (sym far) ∙ ap (λ (l : List ℕ). l ++ x ∷ ds) (take-add a n front) ∙ append_assoc bs ps (x ∷ ds) in
-    let above : ps ++ ds ≡ drop a front =
-    ap (λ m. ps ++ drop m front) (sym far) ∙ ap (λ (l : List ℕ). ps ++ l) (sym (drop-drop n a front)) ∙ take-append-drop n (drop a front) in
-    ap (λ (l : List ℕ). put_mid a k l ys) parted
-    ∙ turned bs ps ds x a n k ys (length-take-le a front (omega arith)) (length-take-le n (drop a front) (omega arith)) r (turn ∙ ap (λ (l : List ℕ). drop n (mid_of a k l) ++ take n (mid_of a k l)) parted)
-    ∙ ap (λ (l : List ℕ). bs ++ x ∷ l) above
+    let ps = drop a front in
+    let m = mid_of a k xs in
+    let below = length-take-le a front le in
+    let cut = length-drop a xs in
+    let parted : xs ≡ bs ++ (ps ++ x ∷ []) =
+    is ∙ ap (λ (l : List ℕ). l ++ x ∷ []) (sym (take-append-drop a front)) ∙ append_assoc bs ps (x ∷ []) in
+    let part : m ≡ ps ++ x ∷ [] =
+    take_all k (drop a xs) (omega arith) ∙ ap (drop a) parted ∙ drop_at bs (ps ++ x ∷ []) a below in
+    let long : length m - 1 ≡ length ps = omega (arith, ap (λ (l : List ℕ). length l) part, length-append ps (x ∷ [])) in
+    let first : ys ≡ x ∷ ps =
+    turn ∙ ap (λ n. drop n m ++ take n m) long
+    ∙ ap (λ (l : List ℕ). drop (length ps) l ++ take (length ps) l) part
+    ∙ ap₂ (λ (u v : List ℕ). u ++ v) (drop_at ps (x ∷ []) (length ps) refl) (take_at ps (x ∷ []) (length ps) refl) in
+    ap₂ (λ (u v : List ℕ). u ++ v) (ap (take a) parted ∙ take_at bs (ps ++ x ∷ []) a below)
+    (ap₂ (λ (u v : List ℕ). u ++ v) first (drop_all k (drop a xs) (omega arith)) ∙ append-nil (x ∷ ps))
 
 -- a row with x, which was pushed, at the place that the search told: the row shows its numbers, and these change
 pub carried : (v : SmallVec ℕ) (shown ys xs : List ℕ) (x i : ℕ) → RisesFrom 0 xs → Found xs x (Err i)

@@ -1,6 +1,6 @@
 //! The row of a vertex: its neighbours, ascending.
 
-ghost use Rattle.std.specs.Prelude.{◌≡◌, ℕ, ◌+◌, ◌≤◌, ◌<◌, ◌↔◌, ◌∷◌, ◌++◌, ◌||◌, not, true, [], List, length, take, drop, insert, IsTrue, OnOk, OnErr, All, filter};
+ghost use Rattle.std.specs.Prelude.{◌≡◌, ℕ, ◌≤◌, ◌<◌, ◌↔◌, ◌∷◌, ◌++◌, ◌||◌, not, true, [], List, length, take, drop, insert, IsTrue, OnOk, OnErr, All, filter};
 ghost use Rattle.kc_graph.specs.Numbers.{has_number, RisesFrom};
 ghost use Rattle.kc_graph.specs.private.Numbers.{put, without, Found};
 ghost use Rattle.kc_graph.specs.private.HalfLists.{halves_of};
@@ -78,42 +78,13 @@ fn close(items: &mut Numbers, from: usize, to: usize)
     }
 }
 
-// How many numbers are moved up at once: four lines of memory.
-const BLOCK: usize = 64;
-
-// Returns the numbers of a block.
-fn block_of(numbers: &[u32]) -> [u32; BLOCK]
-    requires { length numbers.now ≡ BLOCK }
-    ensures { result ≡ numbers.now }
-{
-    let mut block = [0u32; BLOCK];
-    block.copy_from_slice(numbers);
-    block
-}
-
-// Puts the last number before the block of numbers below it. Copies the block by way of the stack, since a move by one
-// number has no vector code.
-fn pass_block(part: &mut [u32])
-    requires { length part.old ≡ BLOCK + 1 }
-    ensures { part.new ≡ drop BLOCK part.old ++ take BLOCK part.old }
-{
-    let x = part[BLOCK];
-    let block = block_of(&part[..BLOCK]);
-    part[1..].copy_from_slice(&block);
-    part[0] = x;
-}
-
-// Brings the last number down to a place, block by block. The rest, at most a block, is turned in place.
+// Brings the last number down to a place, and moves those from there on up by one. A turn does that with vector code,
+// but `SmallVec::insert` number by number.
 fn carry_down(items: &mut [u32], place: usize)
     requires { place < length items.old }
     ensures { (front : List ℕ) (x : ℕ) → items.old ≡ front ++ x ∷ [] → items.new ≡ insert front place x }
 {
-    let mut at = items.len() - 1;
-    while at - place > BLOCK {
-        pass_block(&mut items[at - BLOCK..at + 1]);
-        at -= BLOCK;
-    }
-    items[place..at + 1].rotate_right(1);
+    items[place..].rotate_right(1);
 }
 
 impl Row {
