@@ -86,17 +86,18 @@ fn prefetch_rows<T: InRow>(rows: &[Row], first: u32, rest: &[T], left: &mut usiz
     if count > *left {
         return true;
     }
-    let mut before = None;
+    // At first a number that no vertex has.
+    let mut before = u32::MAX;
     for item in &rest[..count.min(AHEAD)] {
         let v = item.vertex();
-        if before == Some(v) {
+        if v == before {
             continue;
         }
         if !prefetch_row(rows, first, v) {
             // Never: `prefetch_row` always returns true.
             return false;
         }
-        before = Some(v);
+        before = v;
     }
     *left = count.saturating_sub(AHEAD);
     true
