@@ -1,6 +1,6 @@
 //! The engine: it plans a batch, which changes graph and levels; then its plan is shown in a store, or left unshown.
-ghost use Rattle.std.specs.Prelude.{◌≡◌, ◌-◌, ◌<◌, ◌≤◌, true, false, IfOk, OnOk, All, slice_index};
-ghost use Rattle.kc_levels.specs.LevelList.{at_least, MeetsBoth};
+ghost use Rattle.std.specs.Prelude.{◌≡◌, ◌≤◌, true, false, IfOk, OnOk, All};
+ghost use Rattle.kc_levels.specs.LevelList.{MeetsBoth};
 ghost use Rattle.kc_groups.specs.WellFormed.{IsWellFormed};
 ghost use Rattle.kc_engine.specs.States.{IsSound};
 ghost use Rattle.kc_engine.specs.Batches.{IsCleaning, refusal_of};
@@ -276,21 +276,13 @@ impl Engine {
         self.phased.adj.levels()
     }
 
-    /// Returns how many neighbours of `v` are on its level or above (`at_least`). Costs O(1).
-    pub fn at_least_own(&self, v: u32) -> u32
-        requires { v < self.now.state.graph.vertices }
-        ensures { result ≡ at_least self.now.state.graph self.now.state.levels v (slice_index self.now.state.levels v) }
+    /// Returns the graph with its levels, and with the two counts of each vertex. Once the engine has halted, they are
+    /// unspecified.
+    pub fn adj(&self) -> &LevelAdj
+        ensures graph { result.now.graph ≡ self.now.state.graph }
+        ensures levels { result.now.levels ≡ self.now.state.levels }
     {
-        self.phased.adj.at_least_own(v)
-    }
-
-    /// Returns how many neighbours of `v` are on the level below its own or above (`at_least`); on level 0 all count.
-    /// Costs O(1).
-    pub fn at_least_below(&self, v: u32) -> u32
-        requires { v < self.now.state.graph.vertices }
-        ensures { result ≡ at_least self.now.state.graph self.now.state.levels v (slice_index self.now.state.levels v - 1) }
-    {
-        self.phased.adj.at_least_below(v)
+        &self.phased.adj
     }
 
     /// Returns the thresholds of the levels. Unless the engine has halted, they are for the vertices of the graph.

@@ -1,21 +1,16 @@
 -- The lines of the vertices, as they are written one after another.
-use Rattle.std.proofs.Common.{ℕ, zero, suc, ◌≡◌, ◌≤◌, ◌<◌, ◌+◌, ◌-◌, List, [], ◌++◌, get_or, refl, sym, ap, ◌∙◌, append_assoc, arith, inl, inr, add-one}
+use Rattle.std.proofs.Common.{ℕ, zero, suc, ◌≡◌, ◌≤◌, ◌<◌, ◌+◌, List, [], ◌++◌, refl, sym, ap, ◌∙◌, append_assoc, arith, inl, inr, add-one}
 use Rattle.std.proofs.lemmas.Bool.{cases_lt}
 use Rattle.std.proofs.lemmas.List.{append-nil}
 use Rattle.std.specs.Io.KnownBytes.{append_known}
-use Rattle.std.specs.Prelude.{Option, Result, Ok, Err}
+use Rattle.std.specs.Prelude.{Option, Result, Ok, Err, IsOk, IfOk, MatchResult}
 use Rattle.std.proofs.lemmas.Bool.Decides.{nat_tests}
 use Rattle.kc_text.specs.Writing.{IsPrefix, Appends}
 use Rattle.kc_text.specs.declared.buf.SendFault.{SendFault}
 use Rattle.kc_text.proofs.lemmas.Writing.{append_none, append_twice, prefix_longer, prefix_then}
-use Rattle.kc_graph.specs.Shape.{GraphShape}
-use Rattle.kc_levels.specs.declared.profile.Profile.{Profile}
-use Rattle.kc_levels.specs.LevelList.{at_least}
-use Rattle.kc_report.specs.declared.vertices.VertexCounts.{VertexCounts}
-use Rattle.kc_report.specs.Lines.{vertex_line, end_line}
-use Rattle.kc_report.specs.VertexLines.{vertex_lines, vertex_text, estimate_of, AreCounts}
+use Rattle.kc_report.specs.VertexLines.{vertex_lines}
 use Rattle.kc_report.specs.private.HeldBack.{IsHeldBack}
-use Rattle.kc_report.specs.private.LevelWords.{counted_line}
+use Rattle.kc_report.specs.private.Tails.{AreLinesOf}
 
 -- the lines of the vertices below n begin with those below v
 lines_begin : (line : ℕ → List ℕ) (v n : ℕ) → v ≤ n → (rest : List ℕ) × (vertex_lines line n ≡ vertex_lines line v ++ rest)
@@ -39,21 +34,15 @@ lines_prefix line before now later v n h e f =
     let there = lines_begin line (suc v) n (omega arith) in
     rw there.1 (prefix_longer before later (vertex_lines line v ++ line v) there.0 (prefix_then before now later _ _ e f))
 
--- the line with the counts of a vertex
-counted_is : (p : Profile) (n : ℕ) (g : GraphShape) (x : List ℕ) (v level up down : ℕ) → n ≡ g.vertices → level ≡ get_or x v 0 → up ≡ at_least g x v (get_or x v 0) → down ≡ at_least g x v (get_or x v 0 - 1)
-    → vertex_line v level (estimate_of p n level) up down ≡ vertex_text p g x v
-counted_is p n g x v level up down en el eu ed = rw (en, eu, ed, el) refl
-
 -- nothing was written, and nothing is held back
 pub held_none : (line : ℕ → List ℕ) (before : Option (List ℕ)) (buf : List ℕ) → buf ≡ [] → IsHeldBack before before (vertex_lines line 0) buf
 unfolding vertex_lines
 held_none line before buf e = record { said = []; all = sym e; taken = append_none before }
 
--- one more line with counts is held back
-pub held_more : (p : Profile) (n : ℕ) (g : GraphShape) (x : List ℕ) (c : VertexCounts) (before now : Option (List ℕ)) (old new : List ℕ) → n ≡ g.vertices → c.level ≡ get_or x c.v 0 → AreCounts g x c.v (c.up, c.down)
-    → IsHeldBack before now (vertex_lines (vertex_text p g x) c.v) old → new ≡ old ++ counted_line p n c → IsHeldBack before now (vertex_lines (vertex_text p g x) (c.v + 1)) new
+-- one more line is held back
+pub held_more : (line : ℕ → List ℕ) (before now : Option (List ℕ)) (v : ℕ) (old new : List ℕ) → IsHeldBack before now (vertex_lines line v) old → new ≡ old ++ line v → IsHeldBack before now (vertex_lines line (v + 1)) new
 unfolding vertex_lines
-held_more p n g x c before now old new en el are a e = grind (arith, nat_tests, counted_is, add-one, append_assoc, are.0, are.1, a.said, a.all, a.taken)
+held_more line before now v old new a e = grind (arith, nat_tests, add-one, append_assoc, a.said, a.all, a.taken)
 
 -- what was held back was written too
 pub held_sent : (before now later : Option (List ℕ)) (text held : List ℕ) → IsHeldBack before now text held → later ≡ append_known now held → later ≡ append_known before text
@@ -78,7 +67,47 @@ appends_held before now later text held (Ok x) a s = held_sent before now later 
 appends_held before now later text held (Err f) a s = held_then before now later text held a s
 
 -- some lines were written or held back, and a prefix of what was held back was written
-pub held_prefix : (line : ℕ → List ℕ) (before now later : Option (List ℕ)) (v n : ℕ) (held : List ℕ) → v ≤ n → IsHeldBack before now (vertex_lines line v) held → IsPrefix now later held → IsPrefix before later (vertex_lines line n ++ end_line)
+pub held_prefix : (line : ℕ → List ℕ) (before now later : Option (List ℕ)) (v n : ℕ) (held : List ℕ) → v ≤ n → IsHeldBack before now (vertex_lines line v) held → IsPrefix now later held → IsPrefix before later (vertex_lines line n)
 held_prefix line before now later v n held h a b =
     let there = lines_begin line v n h in
-    prefix_longer before later (vertex_lines line n) end_line (rw there.1 (prefix_longer before later (vertex_lines line v) there.0 (held_then before now later (vertex_lines line v) held a b)))
+    rw there.1 (prefix_longer before later (vertex_lines line v) there.0 (held_then before now later (vertex_lines line v) held a b))
+
+-- nothing was written yet
+pub no_lines : (line : ℕ → List ℕ) (before : Option (List ℕ)) (k : ℕ) → k ≡ 0 → before ≡ append_known before (vertex_lines line k)
+unfolding vertex_lines
+no_lines line before k e = rw e (append_none before)
+
+-- some lines were written
+pub some_lines : (line : ℕ → List ℕ) (before now : Option (List ℕ)) (v n : ℕ) → v ≤ n → now ≡ append_known before (vertex_lines line v) → IsPrefix before now (vertex_lines line n)
+some_lines line before now v n h e =
+    let there = lines_begin line v n h in
+    record { said = vertex_lines line v; rest = there.0; all = there.1; taken = e }
+
+-- one more line was put together
+pub piece_line : (line : ℕ → List ℕ) (first v : ℕ) (text new : List ℕ) → AreLinesOf line first v text → new ≡ text ++ line v → AreLinesOf line first (v + 1) new
+unfolding vertex_lines
+piece_line line first v text new are e = rw (add-one, e) (ap (λ (t : List ℕ). t ++ line v) are ∙ append_assoc (vertex_lines line first) text (line v))
+
+-- after some lines those of a piece were written
+pub piece_more : (line : ℕ → List ℕ) (before now later : Option (List ℕ)) (first end : ℕ) (text : List ℕ) → now ≡ append_known before (vertex_lines line first) → AreLinesOf line first end text → later ≡ append_known now text
+    → later ≡ append_known before (vertex_lines line end)
+piece_more line before now later first end text e are f = rw are (append_twice before now later (vertex_lines line first) text e f)
+
+-- after some lines a prefix of those of a piece was written
+piece_part : (line : ℕ → List ℕ) (before now later : Option (List ℕ)) (first end n : ℕ) (text : List ℕ) → end ≤ n → now ≡ append_known before (vertex_lines line first) → AreLinesOf line first end text → IsPrefix now later text
+    → IsPrefix before later (vertex_lines line n)
+piece_part line before now later first end n text h e are f =
+    let there = lines_begin line end n h in
+    rw (there.1, are) (prefix_longer before later (vertex_lines line first ++ text) there.0 (prefix_then before now later (vertex_lines line first) text e f))
+
+-- after some lines a piece was written in part, or there was no memory for it
+pub piece_failed : {E : Type 0} (line : ℕ → List ℕ) (before now later : Option (List ℕ)) (first end n : ℕ) (text : Result (List ℕ) E) → first ≤ n → end ≤ n → now ≡ append_known before (vertex_lines line first) → IfOk text (AreLinesOf line first end)
+    → MatchResult text (λ bytes. IsPrefix now later bytes) (λ _. later ≡ now) → IsPrefix before later (vertex_lines line n)
+piece_failed line before now later first end n (Ok bytes) b h e are f = piece_part line before now later first end n bytes h e are f
+piece_failed line before now later first end n (Err x) b h e are f = some_lines line before later first n b (f ∙ e)
+
+-- after some lines a piece was written, for which there was memory
+pub piece_written : {E : Type 0} (line : ℕ → List ℕ) (before now later : Option (List ℕ)) (first end : ℕ) (text : Result (List ℕ) E) → IsOk text → now ≡ append_known before (vertex_lines line first) → IfOk text (AreLinesOf line first end)
+    → MatchResult text (λ bytes. later ≡ append_known now bytes) (λ _. later ≡ now) → later ≡ append_known before (vertex_lines line end)
+piece_written line before now later first end (Ok bytes) made e are f = piece_more line before now later first end bytes e are f
+piece_written line before now later first end (Err x) made e are f = absurd cc

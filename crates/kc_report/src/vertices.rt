@@ -4,15 +4,11 @@ ghost use Rattle.kc_levels.specs.declared.profile.Profile.{Profile};
 ghost use Rattle.kc_text.specs.Writing.{Appends, WriteCause};
 ghost use Rattle.kc_report.specs.Buffer.{IsCleared};
 ghost use Rattle.kc_report.specs.Lines.{vertex_line};
-ghost use Rattle.kc_report.specs.VertexLines.{AreLevels, GivesCounts, tail_text};
 ghost use Rattle.kc_report.specs.private.LevelWords.{counted_line, AreLevelWords, AreShort};
 
-use crate::head::put_end;
-use crate::held::{BLOCK, send_held};
-use crate::level_words::{compose_words, fill_bounds};
+use crate::level_words::fill_bounds;
 use itoa::write_digits;
-use kc_graph::Graph;
-use kc_levels::{Estimate, Thresholds};
+use kc_levels::Estimate;
 use kc_text::{LineBuf, SendFault, Sink};
 use std::alloc::{AllocError, Global};
 
@@ -93,9 +89,9 @@ fn write_named(name: &[u8], value: u32, line: &mut [u8], end: usize) -> usize
 // The most bytes of the line of a vertex.
 const LONGEST: usize = 106;
 
-// Appends the line of a vertex, with words that were composed for its level (`counted_line`). The line is composed
-// first, and costs one append.
-fn append_counted(
+/// Appends the line of a vertex, with words that were composed for its level (`counted_line`). The line is composed
+/// first, and costs one append.
+pub fn append_counted(
     buf: &mut LineBuf,
     words: &[LineBuf],
     counts: VertexCounts,
@@ -110,43 +106,4 @@ fn append_counted(
     let level = write_bytes(words[counts.level as usize].as_bytes(), &mut line, up);
     let start = write_named(b"vertex ", counts.v, &mut line, level);
     buf.put(&line[start..])
-}
-
-/// Writes the end of a text of levels (`tail_text`): the line of each vertex in ascending order, and the last line.
-///
-/// `counts` gives the two counts of neighbours of a vertex (`AreCounts`), and `th` are the graph's thresholds. There is
-/// a level for each vertex, at most the top. `WriteFault` comes only from a failed write. After `WriteFault` or
-/// `Memory` the sink took a prefix of the lines.
-///
-/// Composes what a level says once for each level. Sends lines in blocks of some 4 KiB. Takes the memory of a block,
-/// and some 100 bytes a level.
-pub fn write_level_tail<K: Sink, F: Fn(u32) -> (u32, u32)>(
-    alloc: Global,
-    buf: &mut LineBuf,
-    sink: &mut K,
-    graph: &Graph,
-    th: &Thresholds,
-    levels: &[u16],
-    counts: F,
-) -> Result<(), SendFault>
-    requires levels { AreLevels th.now graph.now levels.now }
-    requires callable { (v : ℕ) → v < graph.now.vertices → F.pre counts v }
-    requires counts { GivesCounts (F.post counts) graph.now levels.now }
-    ensures text { Appends (K.taken sink.old) (K.taken sink.new) (tail_text th.now.profile graph.now levels.now) result }
-    ensures buffer { IsCleared buf.new result }
-    ensures cause { WriteCause (K.faults sink.old) (K.faults sink.new) result }
-{
-    let words = compose_words(alloc, th, levels)?;
-    buf.clear();
-    for v in 0..graph.vertices() {
-        let (up, down) = counts(v);
-        let level = levels[v as usize];
-        let counted = VertexCounts { v, level, up, down };
-        append_counted(buf, &words, counted)?;
-        if buf.as_bytes().len() >= BLOCK {
-            send_held(buf, sink)?;
-        }
-    }
-    send_held(buf, sink)?;
-    put_end(buf, sink)
 }

@@ -6,10 +6,12 @@ ghost use Rattle.kc_report.specs.VertexLines.{tail_text};
 ghost use Rattle.kc_session.specs.ReaderLines.{reader_lines};
 
 use kc_engine::Engine;
+use kc_graph::Crew;
 use kc_history::Replies;
 use kc_report::{write_level_tail, write_reader};
 use kc_text::{LineBuf, SendFault, Sink};
 use std::alloc::Global;
+use std::thread::Threads;
 
 /// Writes a line for the replies of each reader, in order; readers are numbered from 0 (`reader_lines`).
 ///
@@ -40,8 +42,8 @@ pub fn write_readers<K: Sink>(
 /// The engine has not halted. The levels are its own, as a last pass read them, and the counts of neighbours are the
 /// engine's. `WriteFault` comes only from a failed write. After it, and after `Memory`, the sink took a prefix of the
 /// lines.
-pub fn write_tail<K: Sink>(
-    alloc: Global,
+pub fn write_tail<R: Threads + Sync, K: Sink>(
+    crew: &Crew<'_, R>,
     buf: &mut LineBuf,
     sink: &mut K,
     engine: &Engine,
@@ -53,9 +55,11 @@ pub fn write_tail<K: Sink>(
     ensures buffer { IsCleared buf.new result }
     ensures cause { WriteCause (K.faults sink.old) (K.faults sink.new) result }
 {
-    let counts = |v| (engine.at_least_own(v), engine.at_least_below(v));
+    // Threads share the counts alone, not the engine.
+    let adj = engine.adj();
+    let counts = |v| (adj.at_least_own(v), adj.at_least_below(v));
     write_level_tail(
-        alloc,
+        crew,
         buf,
         sink,
         engine.graph(),

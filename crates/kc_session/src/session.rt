@@ -31,7 +31,7 @@ use crate::report::Report;
 use crate::watched::Watched;
 use kc_batch::{Asks, Header};
 use kc_engine::Engine;
-use kc_graph::MAX_ITEMS;
+use kc_graph::{Crew, MAX_ITEMS};
 use kc_history::Replies;
 use kc_report::write_head;
 use kc_rounds::{Gate, Rounds};
@@ -95,8 +95,8 @@ fn side_by_side<R: Threads + Sync, S: Source + Send, K: Sink + Send, G: Gate + S
 
 // Writes the text after the batches: the lines of the readers, and those of the vertices by a last pass. Returns the
 // levels that the pass has read.
-fn write_rest<K: Sink>(
-    alloc: Global,
+fn write_rest<R: Threads + Sync, K: Sink>(
+    crew: &Crew<'_, R>,
     store: &Store,
     writer: &mut Writer,
     engine: &Engine,
@@ -112,10 +112,11 @@ fn write_rest<K: Sink>(
     ensures levels { IfOk result (λ levels. levels.items ≡ engine.now.state.levels) }
     ensures cause { WriteCause (K.faults sink.old) (K.faults sink.new) result }
 {
+    let alloc = crew.alloc;
     let mut buf = LineBuf::new(alloc);
     write_readers(alloc, &mut buf, sink, lists)?;
     let levels = read_all(alloc, store, writer)?;
-    write_tail(alloc, &mut buf, sink, engine, levels.as_slice())?;
+    write_tail(crew, &mut buf, sink, engine, levels.as_slice())?;
     Ok(levels)
 }
 
@@ -152,7 +153,8 @@ fn run_beside_readers<R: Threads + Sync, S: Source + Send, K: Sink + Send, G: Ga
     let mut writer = take_writer(&mut watched.audience);
     let lists = close_all(alloc, &store, &mut writer, askers.agents)?;
     let engine = &watched.engine;
-    let levels = write_rest(alloc, &store, &mut writer, engine, sink, lists.as_slice())?;
+    let crew = Crew::new(context.rounds.runtime(), alloc, context.rounds.workers());
+    let levels = write_rest(&crew, &store, &mut writer, engine, sink, lists.as_slice())?;
     let replies = count_replies(lists.as_slice());
     Ok(Ended::with(counts, engine, replies, levels.as_slice()))
 }
@@ -176,9 +178,10 @@ fn run_alone<R: Threads + Sync, S: Source, K: Sink, G: Gate + Sync>(
     let counts = run_batches(context, watched, lines, src, sink)?;
     let engine = &watched.engine;
     let levels = engine.levels().as_slice();
-    let alloc = context.rounds.alloc();
-    let mut buf = LineBuf::new(alloc);
-    write_tail(alloc, &mut buf, sink, engine, levels)?;
+    let rounds = &context.rounds;
+    let crew = Crew::new(rounds.runtime(), rounds.alloc(), rounds.workers());
+    let mut buf = LineBuf::new(crew.alloc);
+    write_tail(&crew, &mut buf, sink, engine, levels)?;
     Ok(Ended::with(counts, engine, 0, levels))
 }
 

@@ -18,7 +18,7 @@ use crate::fault::Stop;
 use crate::limits::CAPACITY;
 use crate::server::Server;
 use crate::vertices::write_tail;
-use kc_graph::MAX_ITEMS;
+use kc_graph::{Crew, MAX_ITEMS};
 use kc_intake::{Client, Drainer, Intake, MAX_CLIENTS};
 use kc_report::write_opening;
 use kc_rounds::Gate;
@@ -141,5 +141,6 @@ pub fn serve_scripts<R: Threads + Wait + Sync, K: Sink + Send, G: Gate + Sync>(
     let mut buf = LineBuf::new(alloc);
     write_opening(&mut buf, sink, b"kserve-run 1", n)?;
     serve_clients(context, &mut server, sink)?;
-    write_tail(alloc, &mut buf, sink, &server.engine)
+    let crew = Crew::new(context.rounds.runtime(), alloc, context.rounds.workers());
+    write_tail(&crew, &mut buf, sink, &server.engine)
 }

@@ -5,16 +5,17 @@ ghost use Rattle.kc_report.specs.Buffer.{IsCleared};
 ghost use Rattle.kc_report.specs.VertexLines.{tail_text};
 
 use kc_engine::Engine;
+use kc_graph::Crew;
 use kc_report::write_level_tail;
 use kc_text::{LineBuf, SendFault, Sink};
-use std::alloc::Global;
+use std::thread::Threads;
 
 /// Writes what is after all batches (`tail_text`): a line for each vertex of the engine's graph, and the last line.
 ///
 /// The engine has not halted: the levels and the counts of neighbours are the engine's. `WriteFault` comes only after a
 /// failed write. After it and after `Memory` the sink took a prefix of the lines.
-pub fn write_tail<K: Sink>(
-    alloc: Global,
+pub fn write_tail<R: Threads + Sync, K: Sink>(
+    crew: &Crew<'_, R>,
     buf: &mut LineBuf,
     sink: &mut K,
     engine: &Engine,
@@ -24,10 +25,12 @@ pub fn write_tail<K: Sink>(
     ensures buffer { IsCleared buf.new result }
     ensures cause { WriteCause (K.faults sink.old) (K.faults sink.new) result }
 {
-    let counts = |v| (engine.at_least_own(v), engine.at_least_below(v));
+    // Threads share the counts alone, not the engine.
+    let adj = engine.adj();
+    let counts = |v| (adj.at_least_own(v), adj.at_least_below(v));
     let levels = engine.levels().as_slice();
     write_level_tail(
-        alloc,
+        crew,
         buf,
         sink,
         engine.graph(),

@@ -1,5 +1,5 @@
 // Rounds whose pieces go to several workers.
-use super::support::{WHOLE, answer_beside, in_pieces};
+use super::support::{WHOLE, answer, answer_beside, answers, in_pieces};
 use kc_rounds::{Gate, Spot};
 use kc_shell::Status;
 use std::process::Abort;
@@ -112,6 +112,33 @@ const COMMANDS: &[(&str, u64)] = &[
 fn a_first_round_has_a_piece_for_each_worker(rt: HostRuntime) -> Result<(), Fail> {
     for command in COMMANDS {
         assert!(rt; has_greatest_piece(&rt, command.0, command.1));
+    }
+    Ok(())
+}
+
+// Inputs of one vertex less than two pieces of vertex lines, of two pieces, and of more than four. The edges are at the
+// ends of pieces, so that their lines differ from those beside them.
+const MANY: &[&[u8]] = &[
+    b"kcore 1\nvertices 16383\nbatch\n0 8191\n8191 8192\n8192 16382\nend\n",
+    b"kcore 1\nvertices 16384\nbatch\n0 8191\n8191 8192\n8192 16383\nend\n",
+    b"kcore 1\nvertices 40000\nbatch\n8191 8192\n16384 24575\n24576 24575\n32767 39999\nend\n",
+];
+
+// Several workers share the lines of the vertices. The text is that of one worker.
+#[test]
+fn workers_write_the_same_vertices(rt: HostRuntime) -> Result<(), Fail> {
+    for input in MANY {
+        let (_, sink) = answer(&rt, in_pieces("run 1", input, WHOLE));
+        for line in ["run 3", "run 4", "run 64"] {
+            assert!(rt;
+                answers(
+                    &rt,
+                    in_pieces(line, input, WHOLE),
+                    Status::Done,
+                    sink.bytes()
+                )
+            );
+        }
     }
     Ok(())
 }

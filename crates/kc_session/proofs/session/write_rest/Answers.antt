@@ -19,7 +19,7 @@ returns-in_err-levels-clause-text g c =
     rw p.1 (prefix_longer _ _ (reader_lines 0 c.args.lists.now) _ (prefix_all _ _ _ c.in_ok-write_readers.ensures.text))
 
 pub write_tail-requires-clause-levels : goal.write_tail-requires-clause-levels
-write_tail-requires-clause-levels g c = rw c.as_slice.ensures.value (last_levels c.args.writer.now.state c.args.engine.now.state c.args.engine.now.state.graph.vertices c.args.store.now.vertices c.in_ok-levels.levels.items c.requires.abreast refl c.requires.size c.in_ok-levels.ensures.levels)
+write_tail-requires-clause-levels g c = rw c.as_slice.ensures.value (λ κs h. last_levels c.args.writer.now.state c.args.engine.now.state c.args.engine.now.state.graph.vertices c.args.store.now.vertices c.in_ok-levels.levels.items c.requires.abreast refl c.requires.size c.in_ok-levels.ensures.levels)
 
 pub returns-in_err-write_tail-clause-text : goal.returns-in_err-write_tail-clause-text
 returns-in_err-write_tail-clause-text g c =
