@@ -47,15 +47,15 @@ close_all-requires-clause-agents g c =
     (subst (λ (xs : List AgentShape). HaveRun xs c.side_by_side.new.askers.agents.items) c.in_ok-agents.ensures.agents c.side_by_side.ensures.agents)
 
 pub write_rest-requires-clause-abreast : goal.write_rest-requires-clause-abreast
-write_rest-requires-clause-abreast g c =
+write_rest-requires-clause-abreast g c κs within =
     let there = writer_is_abreast c.side_by_side.new.watched.audience c.in_ok-store.store c.take_writer-writer.result c.side_by_side.new.watched.engine.state c.side_by_side.ensures.run.store c.take_writer-writer.ensures c.in_ok-counts.ensures.run.ready.abreast in
     joined_abreast c.take_writer-writer.result.state c.close_all.new.writer.state c.side_by_side.new.watched.engine.state there.1 c.in_ok-lists.ensures.state
 
 pub write_rest-requires-clause-size : goal.write_rest-requires-clause-size
-write_rest-requires-clause-size g c = c.in_ok-store.ensures.vertices ∙ sym (c.in_ok-counts.ensures.run.ready.vertices ∙ ap (λ (z : State). z.graph.vertices) c.in_ok-engine.ensures.state)
+write_rest-requires-clause-size g c κs within = c.in_ok-store.ensures.vertices ∙ sym (c.in_ok-counts.ensures.run.ready.vertices ∙ ap (λ (z : State). z.graph.vertices) c.in_ok-engine.ensures.state)
 
 pub write_rest-requires-clause-few : goal.write_rest-requires-clause-few
-write_rest-requires-clause-few g c =
+write_rest-requires-clause-few g c κs within =
     let r = session_replies c.in_ok-store.store c.args.context.now.n c.in_ok-store.writer.state.history c.take_writer-writer.result.state.history c.args.asks c.in_ok-agents.agents.items c.side_by_side.new.askers.agents.items c.in_ok-lists.lists.items c.in_ok-store.ensures.vertices c.in_ok-agents.ensures.agents c.side_by_side.ensures.agents c.in_ok-lists.ensures.replies in
     let few = few_replies c.args.context.now.n c.args.asks c.in_ok-lists.lists.items r.fit c.requires.asks.each c.requires.asks.few in
     rw c.as_slice.ensures.value few.1
