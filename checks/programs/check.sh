@@ -213,7 +213,7 @@ fi
 # A run with one worker starts no thread. With four it starts as many each time. It starts fewer if some list or the
 # lines of a batch aren't cut for them, or if there are fewer processors.
 if command -v strace >/dev/null && strace -f -qq -o "$err" true 2>"$out"; then
-  for threads in 1:0 4:84; do
+  for threads in 1:0 4:97; do
     strace -f -qq -e trace=clone,clone3 -e signal=none -o "$err" "$program" run ${threads%:*} <"$strip" >"$out"
     started=$(grep -c 'clone3\?(.*CLONE_THREAD' "$err")
     if [ ${threads%:*} -gt "$(nproc)" ]; then
