@@ -65,6 +65,15 @@ impl<T: Drop> List<T> {
         self.items.is_empty()
     }
 
+    /// Makes room for this many further items, and no more. If there is as much already, does nothing. Fails only if
+    /// memory runs out. The list is unchanged in any case.
+    pub fn reserve_exact(&mut self, further: usize) -> Result<(), AllocError>
+        ensures { self.new ≡ self.old }
+    {
+        self.items.reserve_exact(further)?;
+        Ok(())
+    }
+
     /// Appends an item. Fails only if memory runs out; the list is then unchanged.
     pub fn push(&mut self, item: T) -> Result<(), AllocError>
         ensures ok { OnOk result (self.new ≡ self.old ++ item ∷ []) }

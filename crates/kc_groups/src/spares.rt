@@ -6,7 +6,8 @@ use crate::Phase;
 use kc_history::Entry;
 use std::alloc::Global;
 
-// The most spare entries. Together they take less than 4 MB, as each has two lists of at most 64 bytes.
+// The most spare entries. Together they take less than 4 MB. The list of moves of each has at most 64 bytes, and the
+// list of edges at most 96 (`Entry::push_edge`).
 const MOST_SPARES: usize = 16_384;
 
 // The most moves of a spare entry, and the most edges. In a small batch nearly every group has fewer.

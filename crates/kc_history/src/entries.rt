@@ -63,10 +63,18 @@ impl Entry {
     }
 
     /// Appends an edge. Fails only if memory runs out; the entry is then unchanged.
+    ///
+    /// The first edge makes room for three edges for every two moves, so append the moves before. Most groups have no
+    /// more edges, and their lists never grow.
     pub fn push_edge(&mut self, e: Edge) -> Result<(), AllocError>
         ensures ok { OnOk result (self.new ≡ record self.old { edges = self.old.edges ++ e ∷ [] }) }
         ensures err { OnErr result (self.new ≡ self.old) }
     {
+        if self.edges.is_empty() {
+            let moves = self.moves.len();
+            self.edges
+                .reserve_exact(moves.saturating_add(moves.div_ceil(2)))?;
+        }
         self.edges.push(e)
     }
 }
